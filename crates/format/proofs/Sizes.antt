@@ -1,0 +1,55 @@
+-- Sizes and places in a stream. Assumes nothing.
+use mathlib.Core.Path.{_≡_, refl, sym, _∙_, ap}
+use mathlib.Core.Bool.{Bool, true, false, cond}
+use mathlib.Core.List.{List, [], _∷_, _++_}
+use Prim.Native.Nat.{ℕ, _+_, _-_, _*_, _/_, _≤_, _<_}
+use native.Mathlib.Omega.{arith}
+use native.Mathlib.Nat.{mul-le-mul-right, le-div-iff-mul-le, div-mul-le-self}
+use lib.ListN.{length, length-take, length-drop}
+use Rattle.format.specs.Layout.{anew, bits, payloadBytes, headerBytes, roundedUp, wholeFrame, frames, count, sizeIn, streamLength, fragmentAtPlace}
+use Rattle.format.specs.declared.Variant.{Variant}
+use Rattle.format.specs.declared.Variant.the-variants.{H, L, LPlus}
+use Rattle.format.specs.declared.Header.{Header}
+use Rattle.digits.specs.Digits.{digits}
+
+pub bits-few : (v : Variant) → bits v ≤ 4
+bits-few H = omega arith
+bits-few L = omega arith
+bits-few LPlus = omega arith
+
+pub payload-few : (v : Variant) → payloadBytes v ≤ 32
+payload-few H = omega arith
+payload-few L = omega arith
+payload-few LPlus = omega arith
+
+pub length-header : (h : Header) → length (headerBytes h) ≡ 16
+unfolding headerBytes digits
+length-header h = refl
+
+pub frame-pos : (h : Header) → 0 < wholeFrame h
+frame-pos h = go (anew (h .version))
+  where
+    go : (b : Bool) → 0 < cond b 63 64
+    go true = omega arith
+    go false = omega arith
+
+pub count-whole : (h : Header) (f : ℕ) → count h f ≤ wholeFrame h
+unfolding count
+count-whole h f = omega arith
+
+-- the frames hold every sample
+pub frame-below : (t s w : ℕ) → 0 < w → t < s → t / w < roundedUp s w
+frame-below t s w hw h = le-div-iff-mul-le hw .1 (omega (arith, div-mul-le-self t w))
+
+pub place-below : (frames channels c f : ℕ) → c < channels → f < frames → f * channels + c < frames * channels
+place-below frames channels c f hc hf = omega (arith, mul-le-mul-right channels hf)
+
+-- a fragment in a stream of the right length is whole
+pub place-length : (h : Header) (d : List ℕ) (p : ℕ) → length d ≡ streamLength h → p < frames h * h .channels → length (fragmentAtPlace h d p) ≡ sizeIn h
+unfolding fragmentAtPlace
+place-length h d p e l =
+    let k : p * sizeIn h + sizeIn h ≤ frames h * h .channels * sizeIn h = place-end (frames h * h .channels) p (sizeIn h) l in
+    simp (length-take, length-drop, e) (omega arith)
+  where
+    place-end : (n p size : ℕ) → p < n → p * size + size ≤ n * size
+    place-end n p size h = omega (arith, mul-le-mul-right size h)

@@ -1,0 +1,69 @@
+-- The paper's number and returned numbers for each case of an answer. No two answers have the same reading
+-- (proofs/Answers.antt). Assumes nothing.
+use Prim.Native.Nat.{ℕ}
+use mathlib.Core.List.{List, [], _∷_}
+use Rattle.outcome.specs.Outcome.{Outcome, result, refused}
+use Rattle.format.specs.declared.Header.{Header}
+use Rattle.format.specs.declared.Error.{Error}
+use Rattle.format.specs.declared.Error.the-variants.{InvalidChannels, ZeroSampleRate, MisalignedInterleavedSamples, TooManySamples, InvalidVariant, TruncatedHeader, InvalidMagic, UnsupportedVersion, InvalidReservedByte, InvalidFileLength, InvalidStepIndex, NonZeroPadding, OutputTooShort, InvalidFragment, InvalidState}
+use Rattle.format.specs.declared.Inspected.{Inspected}
+use Rattle.format.specs.declared.Inspected.the-variants as I
+use Rattle.format.specs.declared.Encoded.{Encoded}
+use Rattle.format.specs.declared.Encoded.the-variants as E
+use Rattle.format.specs.declared.Decoded.{Decoded}
+use Rattle.format.specs.declared.Decoded.the-variants as D
+use Rattle.format.specs.declared.FragmentDecoded.{FragmentDecoded}
+use Rattle.format.specs.declared.FragmentDecoded.the-variants as F
+
+unfoldable pub numberOf : Error → ℕ
+numberOf (InvalidChannels b) = 1
+numberOf ZeroSampleRate = 2
+numberOf MisalignedInterleavedSamples = 3
+numberOf TooManySamples = 4
+numberOf (InvalidVariant b) = 8
+numberOf TruncatedHeader = 5
+numberOf InvalidMagic = 6
+numberOf (UnsupportedVersion b) = 7
+numberOf (InvalidReservedByte b) = 9
+numberOf (InvalidFileLength expected actual) = 10
+numberOf (InvalidStepIndex b) = 11
+numberOf NonZeroPadding = 12
+numberOf (OutputTooShort needed) = 13
+numberOf InvalidFragment = 14
+numberOf InvalidState = 15
+
+unfoldable pub valuesOf : Error → List ℕ
+valuesOf (InvalidChannels b) = b ∷ []
+valuesOf ZeroSampleRate = []
+valuesOf MisalignedInterleavedSamples = []
+valuesOf TooManySamples = []
+valuesOf (InvalidVariant b) = b ∷ []
+valuesOf TruncatedHeader = []
+valuesOf InvalidMagic = []
+valuesOf (UnsupportedVersion b) = b ∷ []
+valuesOf (InvalidReservedByte b) = b ∷ []
+valuesOf (InvalidFileLength expected actual) = expected ∷ actual ∷ []
+valuesOf (InvalidStepIndex b) = b ∷ []
+valuesOf NonZeroPadding = []
+valuesOf (OutputTooShort needed) = needed ∷ []
+valuesOf InvalidFragment = []
+valuesOf InvalidState = []
+
+abbrev pub refusal : {A : Type 0} → Error → Outcome A
+refusal e = refused (numberOf e) (valuesOf e)
+
+unfoldable pub inspectedOf : Inspected → Outcome Header
+inspectedOf (I.Accepted h) = result h
+inspectedOf (I.Refused e) = refusal e
+
+unfoldable pub encodedOf : Encoded → Outcome ℕ
+encodedOf (E.Written w) = result (w .length)
+encodedOf (E.Refused e) = refusal e
+
+unfoldable pub decodedOf : Decoded → Outcome Header
+decodedOf (D.Filled h) = result h
+decodedOf (D.Refused e) = refusal e
+
+unfoldable pub fragmentDecodedOf : FragmentDecoded → Outcome ℕ
+fragmentDecodedOf (F.Filled n) = result n
+fragmentDecodedOf (F.Refused e) = refusal e

@@ -1,0 +1,12 @@
+pub mod Tables
+pub mod Layout
+pub mod Step
+pub mod Gain
+pub mod Decode
+pub mod Encode
+pub mod Inspect
+pub mod Calls
+pub mod Answers
+pub mod Tests
+pub mod Compute
+pub mod Cases

@@ -1,0 +1,167 @@
+// The types of SQV4: variant, decoder state, header, the encoder's settings, and what the calls answer. The rules of 01 stand as
+// definitions in specs/, and what is proved of them is listed in proofs/Claims.antt.
+ghost use mathlib.Core.Path.{_≡_};
+ghost use Rattle.format.specs.Layout.{bits, payloadBytes, fragmentSize, variantByte, variantOf};
+ghost use Rattle.format.specs.Decode.{fragmentStart};
+
+// A stream's variant: codes of 4 bits (H) or of 3 bits (L, L+).
+pub enum Variant {
+    H,
+    L,
+    LPlus,
+}
+
+impl Variant {
+    // Samples of a version 3 fragment, and the bytes before its codes: volume and step index.
+    pub const FRAGMENT_SAMPLES: usize = 63;
+
+    pub const FRAGMENT_PREFIX: usize = 2;
+
+    // Samples of a fragment in versions 1 and 2, and the byte before its codes: volume.
+    pub const LEGACY_FRAGMENT_SAMPLES: usize = 64;
+
+    pub const LEGACY_FRAGMENT_PREFIX: usize = 1;
+
+    // Bits of a code.
+    pub fn bits(self) -> usize
+        ensures { λ r. ⌜ r ≡ bits self ⌝ }
+    {
+        match self {
+            Variant::H => 4,
+            Variant::L => 3,
+            Variant::LPlus => 3,
+        }
+    }
+
+    // Bytes of a fragment's packed codes: 63 codes rounded up to whole bytes, which 64 codes fill.
+    pub fn payload_bytes(self) -> usize
+        ensures { λ r. ⌜ r ≡ payloadBytes self ⌝ }
+    {
+        (Self::FRAGMENT_SAMPLES * self.bits() + 7) / 8
+    }
+
+    // Bytes of a version 3 fragment.
+    pub fn fragment_size(self) -> usize
+        ensures { λ r. ⌜ r ≡ fragmentSize 3 self ⌝ }
+    {
+        Self::FRAGMENT_PREFIX + self.payload_bytes()
+    }
+
+    // Bytes of a fragment in versions 1 and 2.
+    pub fn legacy_fragment_size(self) -> usize
+        ensures { λ r. ⌜ r ≡ fragmentSize 1 self ⌝ }
+    {
+        Self::LEGACY_FRAGMENT_PREFIX + self.payload_bytes()
+    }
+
+    // The variant's byte in a header.
+    pub fn byte(self) -> u8
+        ensures { λ r. ⌜ r ≡ variantByte self ⌝ }
+    {
+        match self {
+            Variant::H => 0,
+            Variant::L => 1,
+            Variant::LPlus => 2,
+        }
+    }
+
+    // The variant of a header's byte; a byte above 2 names none, and callers refuse it first.
+    pub fn from_byte(byte: u8) -> Variant
+        ensures { λ r. ⌜ r ≡ variantOf byte ⌝ }
+    {
+        match byte {
+            0 => Variant::H,
+            1 => Variant::L,
+            _ => Variant::LPlus,
+        }
+    }
+}
+
+// A channel's decoder state.
+pub struct State {
+    pub predictor: i32,
+    pub index: usize,
+}
+
+impl State {
+    pub const MAX_STEP_INDEX: u8 = 88;
+
+    // The state at the start of a version 3 fragment whose index byte is `index`; a byte above 88 counts as 88.
+    pub fn fragment_start(index: u8) -> State
+        ensures { λ r. ⌜ r ≡ fragmentStart index ⌝ }
+    {
+        if index < Self::MAX_STEP_INDEX {
+            State {
+                predictor: 0,
+                index: index as usize,
+            }
+        } else {
+            State {
+                predictor: 0,
+                index: 88,
+            }
+        }
+    }
+}
+
+// What a stream's header says: the rate, and the samples of each channel.
+pub struct Header {
+    pub version: u8,
+    pub variant: Variant,
+    pub channels: u8,
+    pub rate: u32,
+    pub samples: u32,
+}
+
+// What a caller of the encoder picks: the variant, and the pre-gain of which 255 leaves the samples as they are.
+pub struct Settings {
+    pub variant: Variant,
+    pub gain: u8,
+}
+
+// Why a call refuses. specs/Answers.antt gives each case its number and returned numbers.
+pub enum Error {
+    InvalidChannels(u8),
+    ZeroSampleRate,
+    MisalignedInterleavedSamples,
+    TooManySamples,
+    InvalidVariant(u8),
+    TruncatedHeader,
+    InvalidMagic,
+    UnsupportedVersion(u8),
+    InvalidReservedByte(u8),
+    InvalidFileLength { expected: usize, actual: usize },
+    InvalidStepIndex(u8),
+    NonZeroPadding,
+    OutputTooShort(usize),
+    InvalidFragment,
+    InvalidState,
+}
+
+// What inspection answers.
+pub enum Inspected {
+    Accepted(Header),
+    Refused(Error),
+}
+
+// What the encoder answers: how many bytes it wrote.
+pub struct Encoding {
+    pub length: usize,
+}
+
+pub enum Encoded {
+    Written(Encoding),
+    Refused(Error),
+}
+
+// What the whole-stream decoder answers: the header of the stream whose samples it wrote.
+pub enum Decoded {
+    Filled(Header),
+    Refused(Error),
+}
+
+// What the fragment decoder answers: how many samples it wrote.
+pub enum FragmentDecoded {
+    Filled(usize),
+    Refused(Error),
+}

@@ -1,0 +1,83 @@
+-- Lists by index: what stands at each index, and the parts of joined lists. Assumes nothing.
+use mathlib.Core.Path.{_≡_, refl, sym, _∙_, ap}
+use Prim.Native.Nat.{ℕ, zero, suc, _+_, _*_, _-_, _≤_, _<_, min}
+use native.Mathlib.Omega.{arith}
+use native.Mathlib.Nat.{mul-le-mul-right, le-of-eq}
+use native.Mathlib.Numerals.{add-one}
+use native.Mathlib.Decide.{decLt}
+use mathlib.Core.List.{List, [], _∷_, _++_, map}
+use lib.ListN.{length, getD, take, drop, length-append, length-take, length-drop, List·getD-append}
+use lib.Seq.{drop-at, getD-at, take-all, take-append-le, drop-append-le, ext-getD, getD-take, getD-drop}
+use Rattle.lists.specs.Lists.{tabulate, joined}
+
+module _ {ℓ} {A : Type ℓ} where
+  -- ---- tabulate
+
+  pub length-tabulate : (f : ℕ → A) (n : ℕ) → length (tabulate f n) ≡ n
+  unfolding tabulate
+  length-tabulate f zero = refl
+  length-tabulate f (suc n) = length-append (tabulate f n) (f n ∷ []) ∙ ap (_+ 1) (length-tabulate f n) ∙ add-one n
+
+  pub getD-tabulate : (f : ℕ → A) (n i : ℕ) (d : A) → i < n → getD (tabulate f n) i d ≡ f i
+  unfolding tabulate
+  getD-tabulate f zero i d h = let z : ⊥ = omega arith in absurd z
+  getD-tabulate f (suc n) i d h = go (decLt i n) (getD-tabulate f n i d)
+    where
+      go : Dec (i < n) → (i < n → getD (tabulate f n) i d ≡ f i) → getD (tabulate f n ++ (f n ∷ [])) i d ≡ f i
+      go (yes l) ih = List·getD-append (tabulate f n) (f n ∷ []) d i (rw length-tabulate l) ∙ ih l
+      go (no l) ih =
+          let e : i ≡ n = omega arith in
+          rw e (getD-at (tabulate f n) (f n) [] d n (length-tabulate f n))
+
+  pub tabulate-ext : (f g : ℕ → A) (n : ℕ) → ((i : ℕ) → i < n → f i ≡ g i) → tabulate f n ≡ tabulate g n
+  unfolding tabulate
+  tabulate-ext f g zero e = refl
+  tabulate-ext f g (suc n) e = cc (tabulate-ext f g n (λ i h. e i (omega arith)), e n (omega arith))
+
+  -- a list is what stands at its indexes
+  pub tabulate-getD : (l : List A) (d : A) → tabulate (λ i. getD l i d) (length l) ≡ l
+  tabulate-getD l d =
+      ext-getD d (tabulate (λ i. getD l i d) (length l)) l (length-tabulate (λ i. getD l i d) (length l))
+      (λ i h. getD-tabulate (λ i. getD l i d) (length l) i d (rw length-tabulate at h))
+
+  -- ---- joined, of lists of one length
+
+  module _ (f : ℕ → List A) (size : ℕ) (sized : (i : ℕ) → length (f i) ≡ size) where
+    pub length-joined : (n : ℕ) → length (joined f n) ≡ n * size
+    unfolding joined
+    length-joined zero = omega arith
+    length-joined (suc n) = length-append (joined f n) (f n) ∙ (omega (arith, length-joined n, sized n))
+
+    -- part p is f p
+    pub joined-part : (n p : ℕ) → p < n → take size (drop (p * size) (joined f n)) ≡ f p
+    unfolding joined
+    joined-part zero p h = let z : ⊥ = omega arith in absurd z
+    joined-part (suc n) p h = go (decLt p n) (joined-part n p)
+      where
+        go : Dec (p < n) → (p < n → take size (drop (p * size) (joined f n)) ≡ f p) → take size (drop (p * size) (joined f n ++ f n)) ≡ f p
+        go (yes l) ih =
+            let k : p * size + size ≤ length (joined f n) = omega (arith, length-joined n, mul-le-mul-right size l) in
+            let j : p * size ≤ length (joined f n) = omega arith in
+            let m : size ≤ length (drop (p * size) (joined f n)) = simp length-drop (omega arith) in
+            rw (drop-append-le, take-append-le) (ih l)
+        go (no l) ih =
+            let e : p ≡ n = omega arith in
+            rw (e, drop-at (joined f n) (f n) (n * size) (length-joined n), take-all size (f n) (le-of-eq (sized n)))
+
+module _ {A : Type 0} where
+  -- a part of a list that is given by index
+  pub tabulate-part : (g : ℕ → A) (d : A) (n k m : ℕ) → take m (drop k (tabulate g n)) ≡ tabulate (λ w. g (k + w)) (min m (n - k))
+  tabulate-part g d n k m =
+      ext-getD d (take m (drop k (tabulate g n))) (tabulate (λ w. g (k + w)) (min m (n - k)))
+      (len ∙ sym (length-tabulate (λ w. g (k + w)) (min m (n - k))))
+      (λ i h. at i (rw len at h))
+    where
+      len : length (take m (drop k (tabulate g n))) ≡ min m (n - k)
+      len = rw (length-take, length-drop, length-tabulate)
+
+      at : (i : ℕ) → i < min m (n - k) → getD (take m (drop k (tabulate g n))) i d ≡ getD (tabulate (λ w. g (k + w)) (min m (n - k))) i d
+      at i h =
+          getD-take m (drop k (tabulate g n)) i d (omega arith)
+          ∙ getD-drop k (tabulate g n) i d
+          ∙ getD-tabulate g n (k + i) d (omega arith)
+          ∙ sym (getD-tabulate (λ w. g (k + w)) (min m (n - k)) i d h)

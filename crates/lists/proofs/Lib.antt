@@ -1,0 +1,3 @@
+pub mod ByIndex
+pub mod Tables
+pub mod Least
