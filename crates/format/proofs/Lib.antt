@@ -1,2 +1,12 @@
 pub mod Sizes
+pub mod Range
+pub mod Accepted
+pub mod Separation
+pub mod Instance
+pub mod Trials
+pub mod Encoder
+pub mod Agreement
+pub mod Gain
+pub mod Answers
 pub mod Checks
+pub mod Claims

@@ -117,9 +117,9 @@ abbrev pub frameOf : List ℤ → ℕ → List ℤ
 frameOf xs f = take (frameSamples encoderVersion) (drop (f * frameSamples encoderVersion) xs)
 
 -- the header that the encoder writes
-unfoldable pub headerWritten : List ℤ → ℕ → ℕ → Variant → Header
-headerWritten pcm channels rate variant =
-    record { version = versionFor channels; variant = variant; channels = channels; rate = rate; samples = length pcm / channels }
+unfoldable pub headerWritten : Settings → List ℤ → ℕ → ℕ → Header
+headerWritten k pcm channels rate =
+    record { version = versionFor channels; variant = k .variant; channels = channels; rate = rate; samples = length pcm / channels }
 
 -- the fragment at place p of the file order: channel p % channels of frame p / channels
 unfoldable pub fragmentFor : Settings → List ℤ → ℕ → ℕ → List ℕ
@@ -127,7 +127,7 @@ fragmentFor k pcm channels p = encodedFragment k (frameOf (channel pcm channels 
 
 unfoldable pub encoded : Settings → List ℤ → ℕ → ℕ → List ℕ
 encoded k pcm channels rate =
-    let h = headerWritten pcm channels rate (k .variant) in
+    let h = headerWritten k pcm channels rate in
     headerBytes h ++ joined (fragmentFor k pcm channels) (frames h * channels)
 
 -- over 4,294,967,295 samples a channel
@@ -137,7 +137,7 @@ tooMany samples = ltb 4294967295 samples
 -- an encoder call with room for so many bytes
 unfoldable pub encodeCall : Settings → List ℤ → ℕ → ℕ → ℕ → Outcome (List ℕ)
 encodeCall k pcm channels rate room =
-    let needed = streamLength (headerWritten pcm channels rate (k .variant)) in
+    let needed = streamLength (headerWritten k pcm channels rate) in
     need (channelsFit (versionFor channels) channels) 1 (channels ∷ [])
     ⟫ refuseIf (eqb rate 0) 2 []
     ⟫ need (eqb (length pcm % channels) 0) 3 []

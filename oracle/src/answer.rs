@@ -1,0 +1,129 @@
+//! The reference's answer to an input. Refusals have the numbers of the scope paper's table.
+
+use crate::input::{Input, hex, words};
+use crate::reference::sqv4::{self, Error, State, Variant};
+use crate::reference::wav::{self, PcmWave, WaveError};
+
+pub enum Answer {
+    Stream(Vec<u8>),
+    Header { version: u8, variant: u8, channels: u8, rate: u32, samples: usize },
+    Samples(Vec<i16>),
+    Played(State, Vec<i16>),
+    Stepped(State),
+    Volume(u8),
+    Wave(PcmWave),
+}
+
+pub struct Refusal {
+    pub number: u8,
+    pub values: Vec<usize>,
+}
+
+pub fn answer(input: &Input) -> Result<Answer, Refusal> {
+    match input {
+        Input::Encode { variant, gain, channels, rate, samples } => {
+            Ok(Answer::Stream(sqv4::encode_interleaved(samples, *channels, *rate, *variant, *gain)?))
+        }
+        Input::Inspect(bytes) => inspect(bytes),
+        Input::Decode(bytes) => Ok(Answer::Samples(sqv4::decode(bytes)?.samples)),
+        Input::Fragment { version, variant, state, count, bytes } => {
+            Ok(play(*version, *variant, *state, *count, bytes))
+        }
+        Input::Step { version, variant, state, code } => {
+            let mut state = *state;
+            sqv4::decode_code(*version, *variant, &mut state, *code);
+            Ok(Answer::Stepped(state))
+        }
+        Input::Volume(samples) => Ok(Answer::Volume(sqv4::fragment_volume(samples))),
+        Input::Wav(bytes) => Ok(Answer::Wave(wav::read_pcm16_wave(bytes)?)),
+    }
+}
+
+fn inspect(bytes: &[u8]) -> Result<Answer, Refusal> {
+    let header = sqv4::inspect(bytes)?;
+    Ok(Answer::Header {
+        version: header.version,
+        variant: header.variant as u8,
+        channels: header.channels,
+        rate: header.sample_rate,
+        samples: header.samples_per_channel,
+    })
+}
+
+/// Version 3 has no state to carry: the given one is handed back.
+fn play(version: u8, variant: Variant, mut state: State, count: usize, bytes: &[u8]) -> Answer {
+    let mut samples = vec![0; count];
+    if version == 3 {
+        sqv4::decode_fragment(variant, bytes, &mut samples);
+    } else {
+        sqv4::decode_legacy_fragment(version, variant, &mut state, bytes, &mut samples);
+    }
+    Answer::Played(state, samples)
+}
+
+/// An answer as a line of text.
+pub fn line(input: &Input) -> String {
+    match answer(input) {
+        Ok(answer) => format!("result{}\n", answer_words(&answer)),
+        Err(refusal) => format!("refused {}{}\n", refusal.number, words(&refusal.values)),
+    }
+}
+
+fn answer_words(answer: &Answer) -> String {
+    match answer {
+        Answer::Stream(bytes) => format!(" {}", hex(bytes)),
+        Answer::Header { version, variant, channels, rate, samples } => {
+            format!(" {version} {variant} {channels} {rate} {samples}")
+        }
+        Answer::Samples(samples) => words(samples),
+        Answer::Played(state, samples) => format!(" {} {}{}", state.predictor, state.index, words(samples)),
+        Answer::Stepped(state) => format!(" {} {}", state.predictor, state.index),
+        Answer::Volume(volume) => format!(" {volume}"),
+        Answer::Wave(wave) => format!(" {} {}{}", wave.channels, wave.sample_rate, words(&wave.samples)),
+    }
+}
+
+impl From<Error> for Refusal {
+    fn from(error: Error) -> Self {
+        let (number, values) = match error {
+            Error::InvalidChannels(count) => (1, vec![count as usize]),
+            Error::ZeroSampleRate => (2, vec![]),
+            Error::MisalignedInterleavedSamples => (3, vec![]),
+            Error::TooManySamples => (4, vec![]),
+            Error::TruncatedHeader => (5, vec![]),
+            Error::InvalidMagic => (6, vec![]),
+            Error::UnsupportedVersion(byte) => (7, vec![byte as usize]),
+            Error::InvalidVariant(byte) => (8, vec![byte as usize]),
+            Error::InvalidReservedByte(byte) => (9, vec![byte as usize]),
+            Error::InvalidFileLength { expected, actual } => (10, vec![expected, actual]),
+            Error::InvalidStepIndex(byte) => (11, vec![byte as usize]),
+            Error::NonZeroPadding => (12, vec![]),
+            Error::SizeOverflow => panic!("SizeOverflow has no number: counts are 64 bits wide"),
+        };
+        Refusal { number, values }
+    }
+}
+
+/// A WAV refusal is known by its text alone: the field that holds it is private.
+impl From<WaveError> for Refusal {
+    fn from(error: WaveError) -> Self {
+        let number = match error.to_string().as_str() {
+            "input is not a RIFF/WAVE file" => 20,
+            "truncated RIFF/WAVE file" => 21,
+            "truncated WAVE chunk header" => 22,
+            "WAVE chunk extends past RIFF boundary" => 23,
+            "invalid or duplicate WAVE fmt chunk" => 24,
+            "duplicate WAVE data chunk" => 25,
+            "WAVE fmt chunk is missing" => 26,
+            "input must use uncompressed 16-bit PCM WAV" => 27,
+            "input must be mono or stereo" => 28,
+            "WAVE sample rate must be nonzero" => 29,
+            "WAVE byte rate overflow" => 30,
+            "inconsistent WAVE byte rate or block alignment" => 31,
+            "WAVE data chunk is missing" => 32,
+            "WAVE data ends in a partial PCM frame" => 33,
+            text => panic!("no number for the text {text:?}"),
+        };
+        Refusal { number, values: vec![] }
+    }
+}

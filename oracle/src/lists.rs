@@ -1,0 +1,333 @@
+//! Lists of inputs. They are the same at every run: the random numbers start from a fixed seed.
+
+use crate::input::{VARIANTS, encode_line, fragment_size, frame_samples, hex, name, prefix};
+use crate::reference::sqv4::{self, Variant};
+
+const RATE: u32 = 8000;
+
+pub fn list(name: &str) -> Option<String> {
+    match name {
+        "matrix" => Some(matrix()),
+        "edges" => Some(edges()),
+        "decode" => Some(decode()),
+        "headers" => Some(headers()),
+        "steps" => Some(steps()),
+        "fragments" => Some(fragments()),
+        _ => None,
+    }
+}
+
+// ---- random numbers and signals
+
+/// Marsaglia's xorshift generator of 64 bits.
+struct Random(u64);
+
+impl Random {
+    fn new() -> Self {
+        Random(0x5351_5634_2545_F491)
+    }
+
+    fn next(&mut self) -> u64 {
+        self.0 ^= self.0 << 13;
+        self.0 ^= self.0 >> 7;
+        self.0 ^= self.0 << 17;
+        self.0 >> 16
+    }
+
+    /// A number below `end`.
+    fn below(&mut self, end: usize) -> usize {
+        (self.next() % end as u64) as usize
+    }
+
+    fn byte(&mut self) -> u8 {
+        self.below(256) as u8
+    }
+
+    /// A number in -most..=most.
+    fn around(&mut self, most: i32) -> i32 {
+        self.below(2 * most as usize + 1) as i32 - most
+    }
+
+    fn sample(&mut self) -> i16 {
+        self.below(65536) as u16 as i16
+    }
+}
+
+/// A decaying tone that is struck again every 37 samples, as a voice is: a resonator in whole numbers.
+fn tone(random: &mut Random, length: usize) -> Vec<i16> {
+    let turn = 20000 + random.below(11000) as i32;
+    let loudness = 1000 + random.below(12000) as i32;
+    let (mut last, mut before) = (0, 0);
+    (0..length)
+        .map(|at| {
+            let strike = if at % 37 == 0 { loudness } else { 0 };
+            let now = (turn * last / 16384 - before * 15 / 16 + strike).clamp(-32768, 32767);
+            (before, last) = (last, now);
+            now as i16
+        })
+        .collect()
+}
+
+fn noise(random: &mut Random, length: usize) -> Vec<i16> {
+    let most = [200, 3000, 32767][random.below(3)];
+    (0..length).map(|_| random.around(most) as i16).collect()
+}
+
+fn full_scale(random: &mut Random, length: usize) -> Vec<i16> {
+    (0..length).map(|_| [-32768, 32767, -32767, 0][random.below(4)]).collect()
+}
+
+fn small(random: &mut Random, length: usize) -> Vec<i16> {
+    (0..length).map(|_| random.around(3) as i16).collect()
+}
+
+/// One channel: one of the signals, or four of them one after the other.
+fn signal(random: &mut Random, length: usize) -> Vec<i16> {
+    const SIGNALS: [fn(&mut Random, usize) -> Vec<i16>; 4] = [tone, noise, full_scale, small];
+    match random.below(5) {
+        4 => {
+            let part = length.div_ceil(4);
+            let mut all: Vec<i16> = SIGNALS.iter().flat_map(|signal| signal(random, part)).collect();
+            let start = random.below(all.len());
+            all.rotate_left(start);
+            all.truncate(length);
+            all
+        }
+        kind => SIGNALS[kind](random, length),
+    }
+}
+
+/// The channels' samples in turn.
+fn interleaved(channels: &[Vec<i16>]) -> Vec<i16> {
+    (0..channels[0].len()).flat_map(|at| channels.iter().map(move |channel| channel[at])).collect()
+}
+
+// ---- encoding
+
+/// Every variant, channel count and gain at lengths around the end of a frame.
+fn matrix() -> String {
+    let mut random = Random::new();
+    let mut text = String::new();
+    for variant in VARIANTS {
+        for channels in 1..=2u8 {
+            for gain in [0, 1, 128, 200, 255] {
+                for length in [1, 62, 63, 64, 65, 70] {
+                    let signals: Vec<_> = (0..channels).map(|_| signal(&mut random, length)).collect();
+                    text += &encode_line(variant, gain, channels, RATE, &interleaved(&signals));
+                }
+            }
+        }
+    }
+    text
+}
+
+/// No samples, one sample at each limit, and the encoder's refusals, alone and where two are due.
+fn edges() -> String {
+    let mut text = String::new();
+    for variant in VARIANTS {
+        for channels in [1, 2] {
+            text += &encode_line(variant, 255, channels, RATE, &[]);
+        }
+        for sample in [0, 1, -1, 128, 129, -129, 1000, 32767, -32767, -32768] {
+            text += &encode_line(variant, 255, 1, RATE, &[sample]);
+        }
+        text += &encode_line(variant, 128, 1, u32::MAX, &[-1000]);
+        for channels in [0, 3, 255] {
+            text += &encode_line(variant, 255, channels, RATE, &[7]);
+            text += &encode_line(variant, 255, channels, 0, &[7]);
+        }
+        for samples in [&[][..], &[7], &[7, -7]] {
+            text += &encode_line(variant, 255, 2, 0, samples);
+        }
+        text += &encode_line(variant, 255, 2, RATE, &[7]);
+        text += &encode_line(variant, 255, 2, RATE, &[7, -7, 7]);
+    }
+    text
+}
+
+// ---- streams
+
+/// The header of a stream.
+fn header(version: u8, variant: Variant, channels: u8, samples: usize) -> Vec<u8> {
+    let mut bytes = sqv4::header_bytes(variant, channels, RATE, samples as u32).to_vec();
+    bytes[4] = version;
+    bytes
+}
+
+/// A fragment of random codes for `count` samples. Volumes 0 and 255 come as often as all the others together.
+fn random_fragment(random: &mut Random, version: u8, variant: Variant, count: usize) -> Vec<u8> {
+    let mut bytes = vec![0; fragment_size(version, variant)];
+    bytes[0] = [0, 255, random.byte(), random.byte()][random.below(4)];
+    if version == 3 {
+        bytes[1] = random.below(89) as u8;
+    }
+    for bit in 0..count * variant.bits() {
+        bytes[prefix(version) + bit / 8] |= (random.below(2) as u8) << (bit % 8);
+    }
+    bytes
+}
+
+fn random_stream(random: &mut Random, version: u8, variant: Variant, channels: u8, samples: usize) -> Vec<u8> {
+    let mut bytes = header(version, variant, channels, samples);
+    for first in (0..samples).step_by(frame_samples(version)) {
+        let count = (samples - first).min(frame_samples(version));
+        for _ in 0..channels {
+            bytes.extend(random_fragment(random, version, variant, count));
+        }
+    }
+    bytes
+}
+
+/// One bit flipped (as often as the rest together), one byte cut off, or one added.
+fn damaged(random: &mut Random, mut bytes: Vec<u8>) -> Vec<u8> {
+    match random.below(4) {
+        0 => bytes.truncate(bytes.len() - 1),
+        1 => bytes.push(random.byte()),
+        _ => {
+            let at = random.below(bytes.len());
+            bytes[at] ^= 1 << random.below(8);
+        }
+    }
+    bytes
+}
+
+fn decode() -> String {
+    let mut random = Random::new();
+    let mut text = String::new();
+    for version in 1..=3 {
+        for variant in VARIANTS {
+            for channels in 1..=2 {
+                for samples in [1, 63, 64, 65, 128, 130] {
+                    let stream = random_stream(&mut random, version, variant, channels, samples);
+                    text += &format!("decode {}\n", hex(&stream));
+                    text += &format!("decode {}\n", hex(&damaged(&mut random, stream)));
+                }
+            }
+        }
+    }
+    text
+}
+
+/// Single fragments from any state, at counts from none to the most. An index byte above 88 is among them.
+fn fragments() -> String {
+    let mut random = Random::new();
+    let mut text = String::new();
+    for version in 1..=3 {
+        for variant in VARIANTS {
+            for count in [0, 1, 2, 7, 8, 62, 63, frame_samples(version)] {
+                for index in [0, 88, random.below(89)] {
+                    let mut bytes = random_fragment(&mut random, version, variant, frame_samples(version));
+                    if version == 3 && random.below(2) == 0 {
+                        bytes[1] = [88, 89, 128, 255][random.below(4)];
+                    }
+                    let predictor = [0, 32767, -32768, random.sample()][random.below(4)];
+                    let words = format!("{} {predictor} {index} {count} {}", name(variant), hex(&bytes));
+                    text += &format!("fragment {version} {words}\n");
+                }
+            }
+        }
+    }
+    text
+}
+
+/// Every code at every index from predictor 0, and at every 8th index from predictors near the clamps and near 0.
+fn steps() -> String {
+    let mut text = String::new();
+    for version in 1..=3 {
+        for variant in VARIANTS {
+            for (predictor, stride) in [(0, 1), (32767, 8), (-32768, 8), (5, 8), (-5, 8)] {
+                for index in (0..=88).step_by(stride) {
+                    for code in 0..1 << variant.bits() {
+                        text += &format!("step {version} {} {predictor} {index} {code}\n", name(variant));
+                    }
+                }
+            }
+        }
+    }
+    text
+}
+
+// ---- headers
+
+type Damage = fn(&mut Vec<u8>);
+
+/// A damage for each check of inspection, in the order of the checks. The length's adds a byte, and the last two are in
+/// the only fragment, which holds one H sample.
+const DAMAGES: [Damage; 10] = [
+    |bytes| bytes.truncate(15),
+    |bytes| bytes[3] = b'5',
+    |bytes| bytes[4] = 4,
+    |bytes| bytes[5] = 3,
+    |bytes| bytes[6] = 3,
+    |bytes| bytes[7] = 1,
+    |bytes| bytes[8..12].fill(0),
+    |bytes| bytes.push(0),
+    |bytes| bytes[17] = 89,
+    |bytes| bytes[18] = 0x17,
+];
+
+fn headers() -> String {
+    let good = sqv4::encode_interleaved(&[1000], 1, RATE, Variant::H, 255).unwrap();
+    let mut streams = vec![good.clone()];
+    streams.extend((0..=20).map(|length| good[..length].to_vec()));
+    for at in 0..20 {
+        for value in [0, 1, 2, 3, 4, 88, 89, 255] {
+            streams.push(changed(&good, at, value));
+        }
+    }
+    streams.extend(pairs(&good));
+    streams.extend(later_damages(&good));
+    streams.extend(fragment_damages());
+    streams.iter().map(|bytes| format!("inspect {}\n", hex(bytes))).collect()
+}
+
+fn changed(stream: &[u8], at: usize, value: u8) -> Vec<u8> {
+    let mut bytes = stream.to_vec();
+    bytes[at] = value;
+    bytes
+}
+
+/// Each two of the damages. A cut is made last, so that the other has its place.
+fn pairs(good: &[u8]) -> Vec<Vec<u8>> {
+    let mut streams = Vec::new();
+    for first in 0..DAMAGES.len() {
+        for second in first + 1..DAMAGES.len() {
+            let mut bytes = good.to_vec();
+            DAMAGES[second](&mut bytes);
+            DAMAGES[first](&mut bytes);
+            streams.push(bytes);
+        }
+    }
+    streams
+}
+
+/// All the damages from each one on.
+fn later_damages(good: &[u8]) -> Vec<Vec<u8>> {
+    let mut bytes = good.to_vec();
+    let mut streams = Vec::new();
+    for damage in DAMAGES.iter().rev() {
+        damage(&mut bytes);
+        streams.push(bytes.clone());
+    }
+    streams
+}
+
+/// Four fragments, two frames of two channels, with an index above 88 in one and the last bit set in another or the
+/// same: the checks go fragment by fragment. The last frame holds one sample. In versions 1 and 2 the changed
+/// bytes of the full frame are codes and accepted.
+fn fragment_damages() -> Vec<Vec<u8>> {
+    let mut random = Random::new();
+    let mut streams = Vec::new();
+    for version in 1..=3 {
+        for variant in VARIANTS {
+            let good = random_stream(&mut random, version, variant, 2, frame_samples(version) + 1);
+            let size = fragment_size(version, variant);
+            for (index_at, bit_at) in (0..16).map(|pair| (pair / 4, pair % 4)) {
+                let mut bytes = changed(&good, 16 + index_at * size + 1, 89);
+                bytes[16 + bit_at * size + size - 1] |= 0x80;
+                streams.push(bytes);
+            }
+        }
+    }
+    streams
+}

@@ -1,0 +1,50 @@
+//! Prints what the reference Rust answers, so that the port's definitions and functions can be compared with it.
+//! oracle/run builds and starts this program; oracle/README.md says how it is used.
+
+mod answer;
+mod antt;
+mod input;
+mod lists;
+mod search;
+
+/// The reference, unchanged: its two modules, which oracle/run names by their full paths. Not all of it is called.
+#[allow(dead_code)]
+mod reference {
+    include!(env!("ORACLE_SQV4"));
+    include!(env!("ORACLE_WAV"));
+}
+
+use std::io::{self, Write};
+use std::process::ExitCode;
+
+const USAGE: &str = "usage: oracle/run answers < LIST
+       oracle/run antt < LIST
+       oracle/run inputs matrix|edges|decode|headers|steps|fragments|search";
+
+fn main() -> ExitCode {
+    match run().and_then(|text| io::stdout().write_all(text.as_bytes()).map_err(|error| error.to_string())) {
+        Ok(()) => ExitCode::SUCCESS,
+        Err(message) => {
+            eprintln!("{message}");
+            ExitCode::from(2)
+        }
+    }
+}
+
+/// The whole output, or what is wrong. Nothing is printed of a list that has a bad line.
+fn run() -> Result<String, String> {
+    let arguments: Vec<String> = std::env::args().skip(1).collect();
+    let words: Vec<&str> = arguments.iter().map(String::as_str).collect();
+    match words[..] {
+        ["answers"] => Ok(read_list()?.iter().map(|(_, input)| answer::line(input)).collect()),
+        ["antt"] => antt::file(&read_list()?),
+        ["inputs", "search"] => Ok(search::list()),
+        ["inputs", name] => lists::list(name).ok_or(USAGE.to_string()),
+        _ => Err(USAGE.to_string()),
+    }
+}
+
+fn read_list() -> Result<Vec<(usize, input::Input)>, String> {
+    let text = io::read_to_string(io::stdin()).map_err(|error| error.to_string())?;
+    input::read(&text)
+}
