@@ -13,13 +13,12 @@ use Rattle.signed.specs.Signed.{onMagnitude}
 use Rattle.signed.proofs.Laws.{quot-on}
 use Rattle.format.specs.Layout.{anew, frames, streamLength, fragmentAt}
 use Rattle.format.specs.Gain.{nearest, pregained, ownVolume, normalised, outputGain}
-use Rattle.format.specs.Decode.{zeroState, stateBefore, fragmentCall}
+use Rattle.format.specs.Decode.{zeroState, InRange, stateBefore, fragmentCall}
 use Rattle.format.specs.Encode.{channel, headerWritten, encoded, encodeCall}
 use Rattle.format.specs.Inspect.{Sound, inspected, decodeCall}
 use Rattle.format.specs.Calls.{Call, Listed, Separate}
 use Rattle.format.specs.Cases.{cases, further}
 use Rattle.format.specs.Answers.{numberOf, valuesOf}
-use Rattle.format.proofs.Range.{InRange}
 use Rattle.format.proofs.Encoder.{Alone}
 use Rattle.format.proofs.Agreement.{Agree}
 use Rattle.format.proofs.Gain.{Nearest, Cut}

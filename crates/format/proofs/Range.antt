@@ -16,15 +16,10 @@ use Rattle.lists.proofs.ByIndex.{length-tabulate}
 use Rattle.signed.proofs.Laws.{clamp-fits, clampTo-le}
 use Rattle.format.specs.Layout.{knownVersion, anew, fragmentSize, frameSamples, indexByte, count}
 use Rattle.format.specs.Step.{stepped}
-use Rattle.format.specs.Decode.{zeroState, fragmentStart, startState, codesOf, after, DecodedFragment, decodedFragment, stateBefore, fragmentFits, stateFits, fragmentCall}
+use Rattle.format.specs.Decode.{zeroState, fragmentStart, startState, codesOf, after, DecodedFragment, decodedFragment, stateBefore, fragmentFits, InRange, stateFits, fragmentCall}
 use Rattle.format.specs.declared.Variant.{Variant}
 use Rattle.format.specs.declared.State.{State}
 use Rattle.format.specs.declared.Header.{Header}
-
--- the predictor fits 16 bits and the index is at most 88
-pub record InRange (s : State) : Type 0 where
-  pub predictor : mag (s .predictor) ≤ 32767
-  pub index : s .index ≤ 88
 
 pub zero-range : InRange zeroState
 zero-range = record { predictor = omega arith; index = omega arith }

@@ -1,6 +1,6 @@
 -- Samples: one fragment, a channel from its own fragments, a whole stream, and the public decoder for one fragment.
 -- Assumes nothing.
-use Prim.Native.Nat.{ℕ, zero, suc, _*_, _/_, _%_, min}
+use Prim.Native.Nat.{ℕ, zero, suc, _*_, _/_, _%_, _≤_, min}
 use mathlib.Core.Bool.{Bool, cond, _&&_, _||_}
 use mathlib.Core.List.{List, [], _∷_}
 use lib.Dec.{leb, ltb, eqb}
@@ -55,6 +55,11 @@ decodedFragment version variant s fragment n =
       state = cond (anew version) s (after version variant codes start n);
     }
 
+-- the predictor fits 16 bits (mag (negsuc n) is n, and negsuc n is −(n + 1)) and the index is at most 88: all states of a decoding
+pub record InRange (s : State) : Type 0 where
+  pub predictor : mag (s .predictor) ≤ 32767
+  pub index : s .index ≤ 88
+
 -- ---- a channel, from its own fragments: frags f is its fragment of frame f. This is 01's "demand 2's definition"
 
 -- the state before frame f: the first starts at 0, 0 and the next where the one before ended
@@ -83,7 +88,7 @@ decoded h d =
 unfoldable pub fragmentFits : ℕ → Variant → List ℕ → ℕ → Bool
 fragmentFits version variant fragment n = eqb (length fragment) (fragmentSize version variant) && leb n (frameSamples version)
 
--- versions 1, 2: the predictor fits 16 bits (mag (negsuc n) is n, and negsuc n is −(n + 1)), and the index is at most 88
+-- versions 1, 2: the predictor fits 16 bits, and the index is at most 88
 unfoldable pub stateFits : ℕ → State → Bool
 stateFits version s = anew version || (leb (mag (s .predictor)) 32767 && leb (s .index) 88)
 

@@ -1,7 +1,7 @@
 -- One code: the difference that it stands for, and the state after it. Assumes nothing.
 use Prim.Native.Nat.{ℕ, _+_, _*_, _/_, _%_}
 use mathlib.Core.Bool.{Bool, cond}
-use mathlib.Core.List.{List, []}
+use mathlib.Core.List.{List, [], _∷_, map}
 use lib.Dec.{eqb}
 use lib.IntN.{ℤ, pos, natAbs, _+ℤ_}
 use lib.ListN.{getD}
@@ -31,9 +31,9 @@ hSize step code =
 unfoldable pub lSize : ℕ → ℕ → ℕ
 lSize level step = (level * step + 4) / 8
 
--- the levels by version and variant; H has none
+-- the levels by version and variant; H has none, and zeros stand for them
 abbrev pub levels : ℕ → Variant → List ℤ
-levels version H = []
+levels version H = map pos (0 ∷ 0 ∷ 0 ∷ 0 ∷ [])
 levels version L = lLevels
 levels version LPlus = cond (eqb version 1) legacyLPlusLevels lPlusLevels
 
