@@ -37,6 +37,12 @@ unfolding after
 after-range version variant codes s zero r = r
 after-range version variant codes s (suc n) r = stepped-range version variant (after version variant codes s n) (getD codes n 0)
 
+-- from version 3 on a call returns the state that it was given
+pub returned-anew : (version : ℕ) (variant : Variant) (s : State) (fragment : List ℕ) (n : ℕ) → anew version ≡ true
+    → decodedFragment version variant s fragment n .state ≡ s
+unfolding decodedFragment
+returned-anew version variant s fragment n e = rw e
+
 -- the state that a call returns is in range where the given one is
 pub returned-range : (version : ℕ) (variant : Variant) (s : State) (fragment : List ℕ) (n : ℕ) → InRange s
     → InRange (decodedFragment version variant s fragment n .state)
@@ -54,12 +60,6 @@ pub before-range : (h : Header) (frags : ℕ → List ℕ) (f : ℕ) → InRange
 unfolding stateBefore
 before-range h frags zero = zero-range
 before-range h frags (suc f) = returned-range (h .version) (h .variant) (stateBefore h frags f) (frags f) (count h f) (before-range h frags f)
-
--- from version 3 on a call returns the state that it was given
-pub returned-anew : (version : ℕ) (variant : Variant) (s : State) (fragment : List ℕ) (n : ℕ) → anew version ≡ true
-    → decodedFragment version variant s fragment n .state ≡ s
-unfolding decodedFragment
-returned-anew version variant s fragment n e = rw e
 
 pub before-anew : (h : Header) (frags : ℕ → List ℕ) (f : ℕ) → anew (h .version) ≡ true → stateBefore h frags f ≡ zeroState
 unfolding stateBefore

@@ -124,6 +124,7 @@ ends =
     && inspects (good 63 (8 ∷ 88 ∷ (replicate 31 255 ++ (15 ∷ [])))) 3 0 1 8000 63
     && inspectRefused (good 63 (8 ∷ 88 ∷ (replicate 31 255 ++ (16 ∷ [])))) 12 []
     && inspectRefused (good 1 (8 ∷ 89 ∷ 7 ∷ replicate 31 0)) 11 (89 ∷ [])
+    && inspectRefused (good 64 (replicate 34 0 ++ (8 ∷ 0 ∷ 0x17 ∷ replicate 31 0))) 12 []
 
 -- returned numbers of 13, 14 and 15, where they begin, and 4's bound
 abbrev bounds : Bool

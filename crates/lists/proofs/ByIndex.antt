@@ -46,7 +46,7 @@ module _ {ℓ} {A : Type ℓ} where
     pub length-joined : (n : ℕ) → length (joined f n) ≡ n * size
     unfolding joined
     length-joined zero = omega arith
-    length-joined (suc n) = length-append (joined f n) (f n) ∙ (omega (arith, length-joined n, sized n))
+    length-joined (suc n) = simp length-append (omega (arith, length-joined n, sized n))
 
     -- part p is f p
     pub joined-part : (n p : ℕ) → p < n → take size (drop (p * size) (joined f n)) ≡ f p
