@@ -17,10 +17,10 @@ bits-few H = omega arith
 bits-few L = omega arith
 bits-few LPlus = omega arith
 
-pub payload-few : (v : Variant) → payloadBytes v ≤ 32
-payload-few H = omega arith
-payload-few L = omega arith
-payload-few LPlus = omega arith
+pub payload-few : (v : Variant) → (24 ≤ payloadBytes v) × (payloadBytes v ≤ 32)
+payload-few H = (omega arith, omega arith)
+payload-few L = (omega arith, omega arith)
+payload-few LPlus = (omega arith, omega arith)
 
 pub length-header : (h : Header) → length (headerBytes h) ≡ 16
 unfolding headerBytes digits

@@ -1,8 +1,14 @@
 -- The paper's number and returned numbers for each case of an answer. No two answers have the same reading
 -- (proofs/Answers.antt). Assumes nothing.
+use mathlib.Core.Path.{_≡_}
 use Prim.Native.Nat.{ℕ}
 use mathlib.Core.List.{List, [], _∷_}
-use Rattle.outcome.specs.Outcome.{Outcome, result, refused}
+use lib.IntN.{ℤ}
+use lib.ListN.{length}
+use Rattle.outcome.specs.Outcome.{Outcome, result, refused, onResult}
+use Rattle.format.specs.Decode.{DecodedFragment, called}
+use Rattle.format.specs.declared.Variant.{Variant}
+use Rattle.format.specs.declared.State.{State}
 use Rattle.format.specs.declared.Header.{Header}
 use Rattle.format.specs.declared.Error.{Error}
 use Rattle.format.specs.declared.Error.the-variants.{InvalidChannels, ZeroSampleRate, MisalignedInterleavedSamples, TooManySamples, InvalidVariant, TruncatedHeader, InvalidMagic, UnsupportedVersion, InvalidReservedByte, InvalidFileLength, InvalidStepIndex, NonZeroPadding, OutputTooShort, InvalidFragment, InvalidState}
@@ -67,3 +73,9 @@ decodedOf (D.Refused e) = refusal e
 unfoldable pub fragmentDecodedOf : FragmentDecoded → Outcome ℕ
 fragmentDecodedOf (F.Filled n) = result n
 fragmentDecodedOf (F.Refused e) = refusal e
+
+-- the promise of the fragment decoder, by value and with a lent state: answer, state and output are those of `called`
+pub record AsCalled (version : ℕ) (variant : Variant) (s : State) (fragment : List ℕ) (out : List ℤ) (answer : FragmentDecoded) (state : State) (output : List ℤ) : Type 0 where
+  pub answered : fragmentDecodedOf answer ≡ onResult (λ (r : DecodedFragment). length (r .samples)) (called version variant s fragment out .answer)
+  pub state-after : state ≡ called version variant s fragment out .state
+  pub output-after : output ≡ called version variant s fragment out .output

@@ -1,7 +1,8 @@
 // The types of SQV4: variant, decoder state, header, the encoder's settings, and what the calls answer. The rules of 01 stand as
 // definitions in specs/, and what is proved of them is listed in proofs/Claims.antt.
 ghost use mathlib.Core.Path.{_≡_};
-ghost use Rattle.format.specs.Layout.{bits, payloadBytes, fragmentSize, variantByte, variantOf};
+ghost use Prim.Native.Nat.{_≤_};
+ghost use Rattle.format.specs.Layout.{knownVersion, bits, payloadBytes, fragmentSize, frameSamples, variantByte, variantOf};
 ghost use Rattle.format.specs.Decode.{fragmentStart};
 
 // A stream's variant: codes of 4 bits (H) or of 3 bits (L, L+).
@@ -75,6 +76,36 @@ impl Variant {
             _ => Variant::LPlus,
         }
     }
+}
+
+// Whether the version is one of 1..=3.
+pub fn known_version(version: u8) -> bool
+    ensures { λ r. ⌜ r ≡ knownVersion version ⌝ }
+{
+    if version < 1 {
+        return false;
+    }
+    version <= 3
+}
+
+// Samples per channel of a whole frame.
+pub fn frame_samples(version: u8) -> usize
+    ensures { λ r. ⌜ (r ≡ frameSamples version) × (63 ≤ r) × (r ≤ 64) ⌝ }
+{
+    if 3 <= version {
+        return Variant::FRAGMENT_SAMPLES;
+    }
+    Variant::LEGACY_FRAGMENT_SAMPLES
+}
+
+// Bytes of a fragment.
+pub fn fragment_size(version: u8, variant: Variant) -> usize
+    ensures { λ r. ⌜ (r ≡ fragmentSize version variant) × (25 ≤ r) × (r ≤ 34) ⌝ }
+{
+    if 3 <= version {
+        return variant.fragment_size();
+    }
+    variant.legacy_fragment_size()
 }
 
 // A channel's decoder state.
