@@ -1,0 +1,37 @@
+-- Normalising and output gain keep 16 bits, and versions 1 and 2 have one output gain. Assumes nothing.
+use Prim.Native.Nat.{ℕ, _+_, _*_, _/_, _≤_, _<_}
+use native.Mathlib.Nat.{mul-le-mul-left}
+use native.Mathlib.Omega.{arith}
+use mathlib.Core.Path.{_≡_}
+use mathlib.Core.Bool.{cond}
+use lib.IntN.{ℤ, natAbs}
+use lib.Signed.{mag}
+use borrow.Author.Tests.{lt-leb}
+use Rattle.signed.specs.Signed.{isNeg, withSign, onMagnitude}
+use Rattle.signed.proofs.Laws.{mag-on, mag-withSign, clamp-fits, cond-ind}
+use Rattle.format.specs.Layout.{anew}
+use Rattle.format.specs.Gain.{nearest, normalised, outputGain}
+
+-- a gain of at most 1, cut or to nearest, does not raise a magnitude
+gain-le : (m g half : ℕ) → g ≤ 255 → half ≤ 127 → (m * g + half) / 255 ≤ m
+gain-le m g half hg hh = omega (arith, mul-le-mul-left m hg)
+
+pub scaled-fits : (g half : ℕ) (x : ℤ) → g ≤ 255 → half ≤ 127 → mag (withSign (isNeg x) ((natAbs x * g + half) / 255)) ≤ mag x
+scaled-fits g half x hg hh = mag-withSign x _ (gain-le (natAbs x) g half hg hh)
+
+pub normalised-fits : (v : ℕ) (x : ℤ) → mag (normalised v x) ≤ 32767
+unfolding normalised
+normalised-fits v x = clamp-fits (onMagnitude (λ m. nearest (m * 255) v) x)
+
+pub output-fits : (version v : ℕ) (x : ℤ) → v ≤ 255 → mag x ≤ 32767 → mag (outputGain version v x) ≤ 32767
+unfolding outputGain
+output-fits version v x hv hx =
+    let m = natAbs x in
+    let up = gain-le m v 127 hv (omega arith) in
+    let le = cond-ind (anew version) (nearest (m * v) 255) (m * v / 255) (_≤ m) (λ _. up) (λ _. omega arith) in
+    omega (arith, mag-on (λ m. cond (anew version) (nearest (m * v) 255) (m * v / 255)) x le)
+
+-- versions 1 and 2 have one output gain
+pub legacy-gain : (version v : ℕ) (x : ℤ) → version < 3 → outputGain version v x ≡ outputGain 1 v x
+unfolding outputGain
+legacy-gain version v x h = rw (lt-leb 3 version h)
