@@ -5,17 +5,26 @@ use mathlib.Core.List.{List, [], _∷_, _++_}
 use Prim.Native.Nat.{ℕ, _+_, _-_, _*_, _/_, _≤_, _<_}
 use native.Mathlib.Omega.{arith}
 use native.Mathlib.Nat.{mul-le-mul-right, le-div-iff-mul-le, div-mul-le-self}
+use types.Run.{OneOf, miss}
+use denote.Enum.Declared.{tagOf}
 use lib.ListN.{length, length-take, length-drop}
 use Rattle.format.specs.Layout.{anew, bits, payloadBytes, headerBytes, roundedUp, wholeFrame, frames, count, sizeIn, streamLength, fragmentAtPlace}
 use Rattle.format.specs.declared.Variant.{Variant}
 use Rattle.format.specs.declared.Variant.the-variants.{H, L, LPlus}
 use Rattle.format.specs.declared.Header.{Header}
+use Rattle.format.proofs.Variant.{the-type}
 use Rattle.digits.specs.Digits.{digits}
 
 pub bits-few : (v : Variant) → bits v ≤ 4
 bits-few H = omega arith
 bits-few L = omega arith
 bits-few LPlus = omega arith
+
+-- what `if let Variant::H = variant { .. } else { .. }` knows in its second arm
+pub three-bits : (variant : Variant) → OneOf (1 ∷ 2 ∷ []) (tagOf the-type variant) → bits variant ≡ 3
+three-bits H o = absurd (miss (1 ∷ 2 ∷ []) 0 tt o)
+three-bits L o = refl
+three-bits LPlus o = refl
 
 pub payload-few : (v : Variant) → (24 ≤ payloadBytes v) × (payloadBytes v ≤ 32)
 payload-few H = (omega arith, omega arith)
@@ -53,3 +62,8 @@ place-length h d p e l =
   where
     place-end : (n p size : ℕ) → p < n → p * size + size ≤ n * size
     place-end n p size h = omega (arith, mul-le-mul-right size h)
+
+-- a part that is taken or not
+pub part-le : (b : Bool) (x : ℕ) → cond b x 0 ≤ x
+part-le true x = omega arith
+part-le false x = omega arith

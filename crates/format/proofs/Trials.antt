@@ -12,6 +12,7 @@ use lib.ListN.{length, getD, length-append}
 use Rattle.lists.specs.Lists.{least}
 use Rattle.lists.proofs.Least.{Least, least-is}
 use Rattle.digits.proofs.Laws.{Small}
+use Rattle.format.proofs.Sizes.{part-le}
 use Rattle.format.specs.Layout.{bits}
 use Rattle.format.specs.Step.{stepAt}
 use Rattle.format.specs.Gain.{normalised}
@@ -22,10 +23,6 @@ use Rattle.format.specs.declared.State.{State}
 use Rattle.format.specs.declared.Settings.{Settings}
 
 -- ---- a code fits its bits
-
-cond-le : (b : Bool) (x : ℕ) → cond b x 0 ≤ x
-cond-le true x = omega arith
-cond-le false x = omega arith
 
 h-code-lt : (s : State) (input : ℤ) → hCode s input < 16
 unfolding hCode
@@ -42,7 +39,7 @@ h-code-lt s input =
     e = takeOff step d
 
     sum : (a b c f : Bool) → cond a 4 0 + cond b 2 0 + cond c 1 0 + cond f 8 0 < 16
-    sum a b c f = omega (arith, cond-le a 4, cond-le b 2, cond-le c 1, cond-le f 8)
+    sum a b c f = omega (arith, part-le a 4, part-le b 2, part-le c 1, part-le f 8)
 
 l-code-lt : (variant : Variant) (s : State) (input : ℤ) → lCode variant s input < 8
 unfolding lCode

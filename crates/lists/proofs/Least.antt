@@ -4,6 +4,7 @@ use Prim.Native.Nat.{ℕ, zero, suc, _≤_, _<_}
 use native.Mathlib.Omega.{arith}
 use native.Mathlib.Decide.{decLt}
 use mathlib.Core.Bool.{Bool, true, false, not, cond}
+use borrow.Author.Tests.{lt-ltb, le-ltb}
 use lib.Dec.{T, ltb, ltb→lt, nltb→le}
 use Rattle.lists.specs.Lists.{least}
 
@@ -53,3 +54,12 @@ module _ {A : Type 0} (cost : A → ℕ) (f : ℕ → A) where
             lowest = up-to n best (r .lowest) (more tt);
             first = r .first;
           }
+
+  -- one more, by the test that a loop makes
+  pub least-taken : (n : ℕ) → cost (f (suc n)) < cost (least cost f n) → least cost f (suc n) ≡ f (suc n)
+  unfolding least
+  least-taken n h = rw (lt-ltb _ _ h)
+
+  pub least-kept : (n : ℕ) → cost (least cost f n) ≤ cost (f (suc n)) → least cost f (suc n) ≡ least cost f n
+  unfolding least
+  least-kept n h = rw (le-ltb _ _ h)

@@ -188,3 +188,21 @@ pub clamp-mid : (z : ℤ) → ltZ z (negsuc 32767) ≡ false → ltZ (pos 32767)
 unfolding clamp16
 clamp-mid (pos n) e d = ap pos (omega (arith, ltb-false 32767 n d))
 clamp-mid (negsuc n) e d = ap negsuc (omega (arith, ltb-false 32767 n e))
+
+-- ---- a number of 16 bits: its magnitude, and what a local of 32 bits holds of it
+
+pub abs16 : (z : ℤ) → mag z ≤ 32767 → natAbs z ≤ 32768
+abs16 z h = let k : mag z < 32768 = omega arith in natAbs-le z k
+
+pub read16 : (z : ℤ) → mag z ≤ 32767 → toZ w32 (ofZ w32 z) ≡ z
+read16 z h = back32 z (omega arith)
+
+-- ---- a signed result, read back with its bound
+
+abbrev pub Read : ℤ → ℤ → ℕ → Type 0
+Read z a m = (toZ w32 (ofZ w32 z) ≡ a) × (natAbs (toZ w32 (ofZ w32 z)) ≤ m)
+
+pub small-read : (z a : ℤ) (m : ℕ) → z ≡ a → natAbs a ≤ m → m < 2 ^ 31 → Read z a m
+small-read z a m e h k =
+    let b : toZ w32 (ofZ w32 z) ≡ a = rw e (back32 a (omega (arith, mag-le a))) in
+    (b, rw b h)
