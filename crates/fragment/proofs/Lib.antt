@@ -1,0 +1,4 @@
+pub mod Run
+pub mod Fragments
+pub mod Calls
+pub mod Local
