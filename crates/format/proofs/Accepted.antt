@@ -25,12 +25,13 @@ same-header h f frame (suc n) e =
     let last : result h ≡ result _ = passed _ _ _ _ (cleared _ _ _ _ (then-passed _ _ e .2) .1) .1 in
     cc
 
-record Headed (d : List ℕ) (h : Header) : Type 0 where
-  version : knownVersion (h .version) ≡ true
-  channels : channelsFit (h .version) (h .channels) ≡ true
-  size : length d ≡ streamLength h
+-- what the header's checks tell
+pub record Headed (d : List ℕ) (h : Header) : Type 0 where
+  pub version : knownVersion (h .version) ≡ true
+  pub channels : channelsFit (h .version) (h .channels) ≡ true
+  pub size : length d ≡ streamLength h
 
-headed : (d : List ℕ) (h : Header) → headerChecks d ≡ result h → Headed d h
+pub headed : (d : List ℕ) (h : Header) → headerChecks d ≡ result h → Headed d h
 unfolding headerChecks
 headed d h e =
     let p6 = passed _ _ _ _ (cleared _ _ _ _ e .1) in

@@ -38,7 +38,7 @@ module _ (h : Header) (d : List ℕ) where
       getD-tabulate (λ j. channelSample h (fragmentAt h d (j % h .channels)) (j / h .channels)) (h .samples * h .channels) (t * h .channels + c) (pos 0) (digits-lt ht hc)
       ∙ rw (digits-mod t hc, digits-div t hc)
 
-  length-decoded : length (decoded h d) ≡ h .samples * h .channels
+  pub length-decoded : length (decoded h d) ≡ h .samples * h .channels
   unfolding decoded
   length-decoded = length-tabulate (λ j. channelSample h (fragmentAt h d (j % h .channels)) (j / h .channels)) (h .samples * h .channels)
 

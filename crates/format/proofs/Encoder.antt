@@ -42,7 +42,7 @@ length-channel pcm channels c = length-tabulate (λ t. getD pcm (t * channels + 
 -- ---- one encoding
 
 module _ (k : Settings) (pcm : List ℤ) (channels rate : ℕ) where
-  sized : (p : ℕ) → length (fragmentFor k pcm channels p) ≡ fragmentSize encoderVersion (k .variant)
+  pub sized : (p : ℕ) → length (fragmentFor k pcm channels p) ≡ fragmentSize encoderVersion (k .variant)
   unfolding fragmentFor
   sized p = length-fragment k _
 
@@ -201,14 +201,14 @@ fragment-passes k xs h f ev eV el short =
     (pass _ _ _ _ _ (eq-eqb _ _ (rest-less _ (mul-le-mul-left (bits (k .variant)) few) zero)) refl)))
 
 module _ (k : Settings) (pcm : List ℤ) (channels rate : ℕ) where
-  length-encoded : length (encoded k pcm channels rate) ≡ streamLength (headerWritten k pcm channels rate)
+  pub length-encoded : length (encoded k pcm channels rate) ≡ streamLength (headerWritten k pcm channels rate)
   unfolding encoded headerWritten
   length-encoded =
       let h : Header = headerWritten k pcm channels rate in
       length-append (headerBytes h) (joined (fragmentFor k pcm channels) (frames h * channels))
       ∙ (omega (arith, length-header h, length-joined (fragmentFor k pcm channels) (fragmentSize encoderVersion (k .variant)) (sized k pcm channels rate) (frames h * channels)))
 
-  frame-count : (c f : ℕ) → length (frameOf (channel pcm channels c) f) ≡ count (headerWritten k pcm channels rate) f
+  pub frame-count : (c f : ℕ) → length (frameOf (channel pcm channels c) f) ≡ count (headerWritten k pcm channels rate) f
   unfolding count headerWritten
   frame-count c f = simp (length-take, length-drop, length-channel)
 

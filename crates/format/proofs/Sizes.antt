@@ -2,13 +2,16 @@
 use mathlib.Core.Path.{_≡_, refl, sym, _∙_, ap}
 use mathlib.Core.Bool.{Bool, true, false, cond}
 use mathlib.Core.List.{List, [], _∷_, _++_}
-use Prim.Native.Nat.{ℕ, _+_, _-_, _*_, _/_, _≤_, _<_}
+use Prim.Native.Nat.{ℕ, _+_, _-_, _*_, _/_, _≤_, _<_, min}
 use native.Mathlib.Omega.{arith}
-use native.Mathlib.Nat.{mul-le-mul-right, le-div-iff-mul-le, div-mul-le-self}
+use native.Mathlib.Nat.{mul-le-mul-left, mul-le-mul-right, le-div-iff-mul-le, div-lt-iff-lt-mul, div-mul-le-self}
 use types.Run.{OneOf, miss}
 use denote.Enum.Declared.{tagOf}
+use lib.Dec.{eqb}
+use borrow.Author.Tests.{eqb-true}
 use lib.ListN.{length, length-take, length-drop}
-use Rattle.format.specs.Layout.{anew, bits, payloadBytes, headerBytes, roundedUp, wholeFrame, frames, count, sizeIn, streamLength, fragmentAtPlace}
+use Rattle.outcome.proofs.Flags.{either-elim}
+use Rattle.format.specs.Layout.{anew, channelsFit, bits, payloadBytes, headerBytes, roundedUp, wholeFrame, frames, count, sizeIn, streamLength, fragmentAtPlace}
 use Rattle.format.specs.declared.Variant.{Variant}
 use Rattle.format.specs.declared.Variant.the-variants.{H, L, LPlus}
 use Rattle.format.specs.declared.Header.{Header}
@@ -67,3 +70,43 @@ place-length h d p e l =
 pub part-le : (b : Bool) (x : ℕ) → cond b x 0 ≤ x
 part-le true x = omega arith
 part-le false x = omega arith
+
+-- one channel or two
+pub channels-few : (version channels : ℕ) → channelsFit version channels ≡ true → (0 < channels) × (channels ≤ 2)
+unfolding channelsFit
+channels-few version channels =
+    either-elim (eqb channels 1) (eqb channels 2)
+    (λ e. let q = eqb-true channels 1 e in (omega arith, omega arith)) (λ e. let q = eqb-true channels 2 e in (omega arith, omega arith))
+
+-- ---- frames
+
+-- a quotient rounded up
+module _ (s w : ℕ) (pos : 0 < w) where
+  up-few : roundedUp s w ≤ s
+  up-few = let l : roundedUp s w < s + 1 = div-lt-iff-lt-mul pos .1 (omega (arith, mul-le-mul-left s pos)) in omega arith
+
+  up-in : (f : ℕ) → f < roundedUp s w → f * w < s
+  up-in f l = let m : (f + 1) * w ≤ s + (w - 1) = le-div-iff-mul-le pos .0 (omega arith) in omega arith
+
+  up-past : (f : ℕ) → roundedUp s w ≤ f → s ≤ f * w
+  up-past f l = let m : s + (w - 1) < (f + 1) * w = div-lt-iff-lt-mul pos .0 (omega arith) in omega arith
+
+module _ (h : Header) where
+  -- no frame is empty, so that there are no more frames than samples
+  pub frames-few : frames h ≤ h .samples
+  unfolding frames
+  frames-few = up-few (h .samples) (wholeFrame h) (frame-pos h)
+
+  -- a frame begins at a sample
+  pub frame-in : (f : ℕ) → f < frames h → f * wholeFrame h < h .samples
+  unfolding frames
+  frame-in = up-in (h .samples) (wholeFrame h) (frame-pos h)
+
+  pub count-is : (f w : ℕ) → w ≡ wholeFrame h → count h f ≡ min w (h .samples - f * w)
+  unfolding count
+  count-is f w e = rw e
+
+  -- past the last frame there is no sample
+  pub count-past : (f : ℕ) → frames h ≤ f → count h f ≡ 0
+  unfolding frames count
+  count-past f l = omega (arith, up-past (h .samples) (wholeFrame h) (frame-pos h) f l)

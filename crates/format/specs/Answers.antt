@@ -5,11 +5,14 @@ use Prim.Native.Nat.{ℕ}
 use mathlib.Core.List.{List, [], _∷_}
 use lib.IntN.{ℤ}
 use lib.ListN.{length}
-use Rattle.outcome.specs.Outcome.{Outcome, result, refused, onResult}
+use Rattle.outcome.specs.Outcome.{Outcome, result, refused, onResult, outputAfter}
 use Rattle.format.specs.Decode.{DecodedFragment, called}
+use Rattle.format.specs.Encode.{encodeCall}
+use Rattle.format.specs.Inspect.{Sound, decodeCall}
 use Rattle.format.specs.declared.Variant.{Variant}
 use Rattle.format.specs.declared.State.{State}
 use Rattle.format.specs.declared.Header.{Header}
+use Rattle.format.specs.declared.Settings.{Settings}
 use Rattle.format.specs.declared.Error.{Error}
 use Rattle.format.specs.declared.Error.the-variants.{InvalidChannels, ZeroSampleRate, MisalignedInterleavedSamples, TooManySamples, InvalidVariant, TruncatedHeader, InvalidMagic, UnsupportedVersion, InvalidReservedByte, InvalidFileLength, InvalidStepIndex, NonZeroPadding, OutputTooShort, InvalidFragment, InvalidState}
 use Rattle.format.specs.declared.Inspected.{Inspected}
@@ -79,3 +82,13 @@ pub record AsCalled (version : ℕ) (variant : Variant) (s : State) (fragment : 
   pub answered : fragmentDecodedOf answer ≡ onResult (λ (r : DecodedFragment). length (r .samples)) (called version variant s fragment out .answer)
   pub state-after : state ≡ called version variant s fragment out .state
   pub output-after : output ≡ called version variant s fragment out .output
+
+-- the promise of the whole-stream decoder: answer and output are those of decodeCall
+pub record AsDecoded (d : List ℕ) (out : List ℤ) (answer : Decoded) (output : List ℤ) : Type 0 where
+  pub answered : decodedOf answer ≡ onResult (λ (s : Sound). s .header) (decodeCall d (length out))
+  pub output-after : output ≡ outputAfter (onResult (λ (s : Sound). s .samples) (decodeCall d (length out))) out
+
+-- the promise of the encoder: answer and output are those of encodeCall
+pub record AsEncoded (k : Settings) (pcm : List ℤ) (channels rate : ℕ) (out : List ℕ) (answer : Encoded) (output : List ℕ) : Type 0 where
+  pub answered : encodedOf answer ≡ onResult length (encodeCall k pcm channels rate (length out))
+  pub output-after : output ≡ outputAfter (encodeCall k pcm channels rate (length out)) out

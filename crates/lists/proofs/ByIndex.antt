@@ -6,8 +6,8 @@ use native.Mathlib.Nat.{mul-le-mul-right, le-of-eq}
 use native.Mathlib.Numerals.{add-one}
 use native.Mathlib.Decide.{decLt}
 use mathlib.Core.List.{List, [], _∷_, _++_, map}
-use lib.ListN.{length, getD, take, drop, length-append, length-take, length-drop, List·getD-append}
-use lib.Seq.{drop-at, getD-at, take-all, take-append-le, drop-append-le, ext-getD, getD-take, getD-drop}
+use lib.ListN.{length, getD, take, drop, set, length-append, length-take, length-drop, List·getD-append}
+use lib.Seq.{take-suc-set, drop-at, getD-at, take-all, take-append-le, drop-append-le, ext-getD, getD-take, getD-drop}
 use Rattle.lists.specs.Lists.{tabulate, joined}
 
 module _ {ℓ} {A : Type ℓ} where
@@ -39,6 +39,11 @@ module _ {ℓ} {A : Type ℓ} where
   tabulate-getD l d =
       ext-getD d (tabulate (λ i. getD l i d) (length l)) l (length-tabulate (λ i. getD l i d) (length l))
       (λ i h. getD-tabulate (λ i. getD l i d) (length l) i d (rw length-tabulate at h))
+
+  -- a loop that fills an array of which only the first places are meant: one turn more
+  pub fill-next : (g : ℕ → A) (r : List A) (w : ℕ) (x : A) → w < length r → take w r ≡ tabulate g w → x ≡ g w → take (w + 1) (set r w x) ≡ tabulate g (w + 1)
+  unfolding tabulate
+  fill-next g r w x h e p = rw add-one (take-suc-set r w x h ∙ rw (e, p))
 
   -- ---- joined, of lists of one length
 

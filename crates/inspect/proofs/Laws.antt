@@ -1,0 +1,61 @@
+-- Where fragments lie, and the fragments' checks in file order. Assumes nothing.
+use mathlib.Core.Path.{_≡_, sym, ap, _∙_, subst}
+use mathlib.Core.Bool.{true}
+use mathlib.Core.List.{List}
+use Prim.Native.Nat.{ℕ, _+_, _-_, _*_, _/_, _≤_, _<_, min}
+use native.Mathlib.Omega.{arith}
+use native.Mathlib.Numerals.{add-one}
+use native.Mathlib.Nat.{mul-le-mul-left, mul-le-mul-right, le-div-iff-mul-le, div-lt-iff-lt-mul, add-sub-cancel-left}
+use borrow.Author.Tests.{eqb-true}
+use lib.Dec.{eqb}
+use lib.ListN.{length, take, drop}
+use Rattle.outcome.specs.Outcome.{Outcome, result, inOrder}
+use Rattle.outcome.proofs.Flags.{either-elim}
+use Rattle.outcome.proofs.Laws.{cleared, passed, order-next, order-refused}
+use Rattle.format.specs.Layout.{channelsFit, roundedUp, wholeFrame, headerOf, frames, count, sizeIn, streamLength, fragmentAtPlace}
+use Rattle.format.specs.Inspect.{headerChecks, fragmentChecks}
+use Rattle.format.specs.Answers.{inspectedOf}
+use Rattle.format.specs.declared.Header.{Header}
+use Rattle.format.specs.declared.Error.{Error}
+use Rattle.format.specs.declared.Inspected.the-variants.{Accepted, Refused}
+use Rattle.format.proofs.Sizes.{frame-pos, payload-few, place-length}
+
+-- ---- fragments
+
+-- the part of a stream from a fragment's first byte to its end, as a part of a slice is given
+pub part-place : (h : Header) (d : List ℕ) (p : ℕ) → take (16 + p * sizeIn h + sizeIn h - (16 + p * sizeIn h)) (drop (16 + p * sizeIn h) d) ≡ fragmentAtPlace h d p
+unfolding fragmentAtPlace
+part-place h d p = rw (add-sub-cancel-left (16 + p * sizeIn h) (sizeIn h))
+
+-- a fragment ends in its stream
+pub place-inside : (h : Header) (p : ℕ) → p < frames h * h .channels → 16 + p * sizeIn h + sizeIn h ≤ streamLength h
+place-inside h p l = omega (arith, mul-le-mul-right (sizeIn h) l)
+
+-- it holds the bytes before its codes
+pub place-prefix : (h : Header) (d : List ℕ) (p : ℕ) → length d ≡ streamLength h → p < frames h * h .channels → 2 ≤ length (fragmentAtPlace h d p)
+place-prefix h d p e l = rw (place-length h d p e l) (omega (arith, payload-few (h .variant)))
+
+-- ---- the fragments in file order
+
+-- the checks of the fragment at place p
+abbrev pub checkAt : Header → List ℕ → ℕ → Outcome Header
+checkAt h d p = fragmentChecks h (p / h .channels) (fragmentAtPlace h d p)
+
+same-header : (h : Header) (f : ℕ) (fragment : List ℕ) {x : Header} → fragmentChecks h f fragment ≡ result x → fragmentChecks h f fragment ≡ result h
+unfolding fragmentChecks
+same-header h f fragment e =
+    let last : result h ≡ result _ = passed _ _ _ _ (cleared _ _ _ _ e .1) .1 in
+    cc
+
+-- the fragments before place p have passed, and the one at p is checked
+module _ (h : Header) (d : List ℕ) (p : ℕ) (fragment : List ℕ) (here : fragment ≡ fragmentAtPlace h d p) (before : inOrder h (checkAt h d) p ≡ result h) where
+  at-place : {o : Outcome Header} → o ≡ fragmentChecks h (p / h .channels) fragment → checkAt h d p ≡ o
+  at-place e = sym (e ∙ ap (fragmentChecks h (p / h .channels)) here)
+
+  pub one-more : (x : Header) → inspectedOf (Accepted x) ≡ fragmentChecks h (p / h .channels) fragment → inOrder h (checkAt h d) (p + 1) ≡ result h
+  unfolding inspectedOf
+  one-more x e = rw add-one (order-next h (checkAt h d) p before ∙ same-header h _ _ (at-place e))
+
+  pub refused-here : (e : Error) (n : ℕ) → p < n → inspectedOf (Refused e) ≡ fragmentChecks h (p / h .channels) fragment → inspectedOf (Refused e) ≡ inOrder h (checkAt h d) n
+  unfolding inspectedOf
+  refused-here e n l r = sym (order-refused h (checkAt h d) p n before (at-place r) l)

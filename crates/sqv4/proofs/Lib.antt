@@ -1,0 +1,6 @@
+pub mod Places
+pub mod Interleave
+pub mod Turns
+pub mod DecodeLoop
+pub mod EncodeLoop
+pub mod Decoding

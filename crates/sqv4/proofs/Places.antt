@@ -1,0 +1,38 @@
+-- Where a channel's samples lie in an interleaved list. Assumes nothing.
+use Prim.Native.Nat.{ℕ, suc, _+_, _-_, _*_, _/_, _≤_, _<_}
+use native.Mathlib.Omega.{arith}
+use native.Mathlib.Nat.{mul-le-mul-right, mul-le-mul-left, div-lt-iff-lt-mul}
+use Rattle.format.specs.Layout.{wholeFrame, frames, count}
+use Rattle.format.proofs.Sizes.{frame-in}
+use Rattle.format.specs.declared.Header.{Header}
+
+-- sample w of n of one channel: its place is in the list, and not before its number
+pub record Place (first w channels ch len : ℕ) : Type 0 where
+  pub within : (first + w) * channels + ch < len
+  pub above : first + w ≤ (first + w) * channels
+
+pub place-in : (first w n channels ch len : ℕ) → w < n → ch < channels → (first + n) * channels ≤ len → Place first w channels ch len
+place-in first w n channels ch len hw hc h =
+    record { within = omega (arith, mul-le-mul-right channels (less first hw)); above = omega (arith, mul-le-mul-left (first + w) (some hc)) }
+  where
+    less : (first : ℕ) → w < n → suc (first + w) ≤ first + n
+    less first hw = omega arith
+
+    some : ch < channels → 1 ≤ channels
+    some hc = omega arith
+
+-- the frame of place p
+pub frame-of : (p frames channels : ℕ) → 0 < channels → p < frames * channels → p / channels < frames
+frame-of p frames channels h l = div-lt-iff-lt-mul h .1 l
+
+-- a frame's samples lie in the output: those of frame f begin at f × whole, and count many follow
+pub record Room (first n channels samples len : ℕ) : Type 0 where
+  pub start : first ≤ samples
+  pub within : (first + n) * channels ≤ len
+
+pub frame-room : (h : Header) (f len : ℕ) → f < frames h → h .samples * h .channels ≤ len → Room (f * wholeFrame h) (count h f) (h .channels) (h .samples) len
+unfolding count
+frame-room h f len hf hl =
+    let start : f * wholeFrame h ≤ h .samples = omega (arith, frame-in h f hf) in
+    let end : f * wholeFrame h + count h f ≤ h .samples = omega arith in
+    record { start = start; within = omega (arith, mul-le-mul-right (h .channels) end) }

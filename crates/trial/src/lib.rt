@@ -1,0 +1,184 @@
+// Encoding one fragment: the trial from one start index, the search over the starts 0..=88, and the fragment's bytes.
+ghost use mathlib.Core.Path.{_≡_};
+ghost use mathlib.Core.List.{_∷_, map};
+ghost use Prim.Native.Nat.{ℕ, _-_, _<_, _≤_, _^_};
+ghost use lib.IntN.{natAbs, _-ℤ_};
+ghost use lib.ListN.{length, getD, take};
+ghost use lib.Signed.{mag};
+ghost use Rattle.digits.specs.Digits.{number, packed};
+ghost use Rattle.format.specs.Tables as tables;
+ghost use Rattle.format.specs.Layout.{bits, fragmentSize};
+ghost use Rattle.format.specs.Gain.{pregained, normalised, outputGain};
+ghost use Rattle.format.specs.Encode.{square, trialTo, bestTrial, bestOrSilent, encodedFragment};
+use format::Settings;
+use format::State;
+
+// The version whose fragments the encoder makes.
+const VERSION: u8 = 3;
+
+// A trial's codes, one for each sample from place 0 on, and the sum of its squared distances.
+pub struct Trial {
+    pub codes: [u8; 63],
+    pub sum: u64,
+}
+
+// The best trial so far, with its start index.
+pub struct Best {
+    pub index: u8,
+    pub codes: [u8; 63],
+    pub sum: u64,
+}
+
+// Internal: the samples after pre-gain.
+fn pre_gained(samples: &[i16], gain: u8) -> [i16; 63]
+    requires { ⌜ length (now samples) ≤ 63 ⌝ }
+    ensures { λ r. ⌜ take (length (now (samples .entry))) r ≡ map (pregained gain) (now (samples .entry)) ⌝ }
+{
+    let mut xs = [0i16; 63];
+    let mut i: usize = 0;
+    while i < samples.len() {
+        xs[i] = gain::pre_gain(samples[i], gain);
+        i += 1;
+    }
+    xs
+}
+
+// Internal: the first `count` samples, normalised to full scale.
+fn normalized(xs: [i16; 63], count: usize, volume: u8) -> [i16; 63]
+    requires { ⌜ (count ≤ 63) × (0 < volume) ⌝ }
+    ensures { λ r. ⌜ take count r ≡ map (normalised volume) (take count xs) ⌝ }
+{
+    let mut targets = [0i16; 63];
+    let mut i: usize = 0;
+    while i < count {
+        targets[i] = gain::normalize(xs[i], volume) as i16;
+        i += 1;
+    }
+    targets
+}
+
+// Internal: the square of the distance from a pre-gained sample to the sample that a state gives.
+fn squared_error(sample: i16, state: State, volume: u8) -> u64
+    requires { ⌜ mag (state .predictor) ≤ 32767 ⌝ }
+    ensures { λ r. ⌜ (r ≡ square (natAbs (sample -ℤ outputGain 3 volume (state .predictor)))) × (r ≤ 4294967296) ⌝ }
+{
+    let predictor = state.predictor;
+    signed::squared_distance(sample as i32, gain::apply_volume(predictor, volume) as i32)
+}
+
+// Internal: the trial of the first `count` samples from a start index. `targets` are the samples normalised.
+fn run_trial(
+    steps: &[i32; 89],
+    settings: Settings,
+    volume: u8,
+    xs: [i16; 63],
+    targets: [i16; 63],
+    count: usize,
+    index: u8,
+) -> Trial
+    requires { ⌜ (now steps ≡ tables.steps) × (count ≤ 63) × (take count targets ≡ map (normalised volume) (take count xs)) ⌝ }
+    ensures { λ r. ⌜ take count (r .codes) ≡ trialTo settings volume (take count xs) index count .codes ⌝ }
+    ensures { λ r. ⌜ r .sum ≡ trialTo settings volume (take count xs) index count .sum ⌝ }
+{
+    let mut state = State::fragment_start(index);
+    let mut codes = [0u8; 63];
+    let mut sum: u64 = 0;
+    let mut i: usize = 0;
+    while i < count {
+        let variant = settings.variant;
+        let sample = xs[i];
+        let target = targets[i];
+        let code = adpcm::encode_code(steps, variant, state, target as i32);
+        state = adpcm::update(steps, VERSION, variant, state, code);
+        codes[i] = code;
+        sum += squared_error(sample, state, volume);
+        i += 1;
+    }
+    Trial { codes, sum }
+}
+
+// Internal: of the trials from 0..=88 the one with the least sum, the lowest start at equality.
+fn best_trial(
+    steps: &[i32; 89],
+    settings: Settings,
+    volume: u8,
+    xs: [i16; 63],
+    count: usize,
+) -> Best
+    requires { ⌜ (now steps ≡ tables.steps) × (count ≤ 63) × (0 < volume) ⌝ }
+    ensures { λ r. ⌜ r .index ≡ bestTrial settings volume (take count xs) .start ⌝ }
+    ensures { λ r. ⌜ take count (r .codes) ≡ bestTrial settings volume (take count xs) .codes ⌝ }
+    ensures { λ r. ⌜ r .sum ≡ bestTrial settings volume (take count xs) .sum ⌝ }
+{
+    let targets = normalized(xs, count, volume);
+    let first = run_trial(steps, settings, volume, xs, targets, count, 0);
+    let codes = first.codes;
+    let mut best = Best {
+        index: 0,
+        codes: codes,
+        sum: first.sum,
+    };
+    let mut index = 1u8;
+    while index < 89 {
+        let next = run_trial(steps, settings, volume, xs, targets, count, index);
+        if next.sum < best.sum {
+            let codes = next.codes;
+            best = Best {
+                index: index,
+                codes: codes,
+                sum: next.sum,
+            };
+        }
+        index += 1;
+    }
+    best
+}
+
+// Internal: the best trial; for silence, where the volume is 0, index 0 and zero codes.
+fn best_or_silent(
+    steps: &[i32; 89],
+    settings: Settings,
+    volume: u8,
+    xs: [i16; 63],
+    count: usize,
+) -> Best
+    requires { ⌜ (now steps ≡ tables.steps) × (count ≤ 63) ⌝ }
+    ensures { λ r. ⌜ r .index ≡ bestOrSilent settings volume (take count xs) .start ⌝ }
+    ensures { λ r. ⌜ ((i : ℕ) → getD (take count (r .codes)) i 0 < 2 ^ bits (settings .variant)) ⌝ }
+    ensures { λ r. ⌜ number (bits (settings .variant)) (take count (r .codes)) ≡ number (bits (settings .variant)) (bestOrSilent settings volume (take count xs) .codes) ⌝ }
+{
+    if volume == 0 {
+        return Best {
+            index: 0,
+            codes: [0u8; 63],
+            sum: 0,
+        };
+    }
+    best_trial(steps, settings, volume, xs, count)
+}
+
+// Internal: a fragment's bytes that fill `out`: volume, index, and the first `count` codes packed into the rest.
+fn put_fragment(out: &mut [u8], volume: u8, index: u8, codes: [u8; 63], count: usize, bits: usize)
+    requires { ⌜ (0 < bits) × (bits ≤ 8) × (count ≤ 63) × (2 ≤ length (now out)) × (length (now out) < 2 ^ 32) ⌝ }
+    requires { ⌜ ((i : ℕ) → getD (take count codes) i 0 < 2 ^ bits) ⌝ }
+    ensures { λ _. ⌜ now (out .exit) ≡ volume ∷ index ∷ packed bits (length (now (out .entry)) - 2) (take count codes) ⌝ }
+{
+    out[0] = volume;
+    out[1] = index;
+    digits::pack_codes(&codes[..count], bits, &mut out[2..]);
+}
+
+// Internal: the fragment of at most 63 samples. It fills `out`.
+pub fn encode_fragment(settings: Settings, samples: &[i16], out: &mut [u8])
+    requires { ⌜ (length (now samples) ≤ 63) × (length (now out) ≡ fragmentSize 3 (settings .variant)) ⌝ }
+    ensures { λ _. ⌜ now (out .exit) ≡ encodedFragment settings (now (samples .entry)) ⌝ }
+{
+    let steps = adpcm::steps();
+    let count = samples.len();
+    let xs = pre_gained(samples, settings.gain);
+    let volume = gain::fragment_volume(&xs[..count]);
+    let best = best_or_silent(&steps, settings, volume, xs, count);
+    let codes = best.codes;
+    let variant = settings.variant;
+    put_fragment(out, volume, best.index, codes, count, variant.bits());
+}
