@@ -4,3 +4,4 @@ pub mod Turns
 pub mod DecodeLoop
 pub mod EncodeLoop
 pub mod Decoding
+pub mod Encoding

@@ -1,8 +1,9 @@
 -- Where a channel's samples lie in an interleaved list. Assumes nothing.
-use Prim.Native.Nat.{ℕ, suc, _+_, _-_, _*_, _/_, _≤_, _<_}
+use Prim.Native.Nat.{ℕ, suc, _+_, _-_, _*_, _/_, _≤_, _<_, min}
 use native.Mathlib.Omega.{arith}
-use native.Mathlib.Nat.{mul-le-mul-right, mul-le-mul-left, div-lt-iff-lt-mul}
-use Rattle.format.specs.Layout.{wholeFrame, frames, count}
+use native.Mathlib.Nat.{mul-le-mul-right, mul-le-mul-left, div-lt-iff-lt-mul, div-mul-le-self}
+use mathlib.Core.Path.{_≡_, ap}
+use Rattle.format.specs.Layout.{roundedUp, wholeFrame, frames, count}
 use Rattle.format.proofs.Sizes.{frame-in}
 use Rattle.format.specs.declared.Header.{Header}
 
@@ -36,3 +37,14 @@ frame-room h f len hf hl =
     let start : f * wholeFrame h ≤ h .samples = omega (arith, frame-in h f hf) in
     let end : f * wholeFrame h + count h f ≤ h .samples = omega arith in
     record { start = start; within = omega (arith, mul-le-mul-right (h .channels) end) }
+
+-- a fragment's bytes lie in the output
+pub spot : (p fragments size len : ℕ) → p < fragments → 16 + fragments * size ≤ len → 16 + p * size + size ≤ len
+spot p fragments size len h l = omega (arith, mul-le-mul-right size h)
+
+-- the samples of frame f of a channel lie in the interleaved list
+pub gather-room : (f n total c len : ℕ) → f < roundedUp total 63 → n ≡ min 63 (total - f * 63) → total ≡ len / c → (f * 63 + n) * c ≤ len
+gather-room f n total c len hf en et =
+    let first : f * 63 ≤ total = omega arith in
+    let end : f * 63 + n ≤ total = omega arith in
+    omega (arith, mul-le-mul-right c end, ap (_* c) et, div-mul-le-self len c)

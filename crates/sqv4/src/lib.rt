@@ -1,8 +1,11 @@
 // Whole streams: the encoder and the decoder.
 use format::Decoded;
+use format::Encoded;
+use format::Encoding;
 use format::Error;
 use format::Header;
 use format::Inspected;
+use format::Settings;
 use format::State;
 use format::Variant;
 ghost use mathlib.Core.Path.{_≡_};
@@ -12,10 +15,28 @@ ghost use Prim.Native.Nat.{_+_, _-_, _*_, _/_, _<_, _≤_, min};
 ghost use lib.IntN.{pos};
 ghost use lib.ListN.{length, take, drop, getD};
 ghost use Rattle.lists.specs.Lists.{tabulate};
-ghost use Rattle.format.specs.Layout.{knownVersion, headerBytes, frames, count, streamLength};
+ghost use Rattle.format.specs.Layout.{knownVersion, fragmentSize, headerBytes, roundedUp, frames, count, streamLength};
 ghost use Rattle.format.specs.Decode.{InRange};
-ghost use Rattle.format.specs.Answers.{AsDecoded};
-ghost use Rattle.sqv4.specs.Loops.{spread, placeDecoded, startStates, loopOut};
+ghost use Rattle.format.specs.Encode.{fragmentFor};
+ghost use Rattle.format.specs.Answers.{AsDecoded, AsEncoded};
+ghost use Rattle.sqv4.specs.Loops.{spread, putAfter, placeDecoded, startStates, loopOut};
+
+// The version that the encoder writes.
+const VERSION: u8 = 3;
+
+// The header of an encoding.
+fn header_for(settings: Settings, channels: u8, rate: u32, samples: u32) -> Header
+    ensures { λ r. ⌜ r ≡ record { version = 3; variant = settings .variant; channels = channels; rate = rate; samples = samples } ⌝ }
+{
+    let variant = settings.variant;
+    Header {
+        version: VERSION,
+        variant,
+        channels,
+        rate,
+        samples,
+    }
+}
 
 // The 16 bytes of a header.
 fn header_bytes(h: Header) -> [u8; 16]
@@ -83,6 +104,72 @@ fn gather(pcm: &[i16], first: usize, channels: usize, channel: usize, n: usize) 
         w += 1;
     }
     r
+}
+
+// Internal: the fragments of an encoding, in file order, behind the 16 bytes of the header.
+fn encode_fragments(settings: Settings, pcm: &[i16], channels: usize, out: &mut [u8])
+    requires { ⌜ (0 < channels) × (channels ≤ 255) × (length (now pcm) / channels ≤ 4294967295)
+        × (16 + roundedUp (length (now pcm) / channels) 63 * channels * fragmentSize 3 (settings .variant) ≤ length (now out)) ⌝ }
+    ensures { λ _. ⌜ now (out .exit) ≡ putAfter (take 16 (now (out .entry))) 16 (fragmentFor settings (now (pcm .entry)) channels) (fragmentSize 3 (settings .variant)) (now (out .entry)) (roundedUp (length (now (pcm .entry)) / channels) 63 * channels) ⌝ }
+{
+    let variant = settings.variant;
+    let size = variant.fragment_size();
+    let total = pcm.len() / channels;
+    let fragments = (total + 62) / 63 * channels;
+    let mut p = 0;
+    while p < fragments {
+        let channel = p % channels;
+        let first = p / channels * 63;
+        let n = count_from(total, first);
+        let s = gather(pcm, first, channels, channel, n);
+        let at = 16 + p * size;
+        let end = at + size;
+        trial::encode_fragment(settings, &s[..n], &mut out[at..end]);
+        p += 1;
+    }
+}
+
+// Encodes interleaved samples at the caller's settings into `out`, as a stream of version 3, and answers its length. A refusal leaves the
+// output as it was.
+pub fn encode(settings: Settings, pcm: &[i16], channels: u8, rate: u32, out: &mut [u8]) -> Encoded
+    ensures { λ r. ⌜ AsEncoded settings (now (pcm .entry)) channels rate (now (out .entry)) r (now (out .exit)) ⌝ }
+{
+    if !inspect::channels_fit(VERSION, channels) {
+        return Encoded::Refused(Error::InvalidChannels(channels));
+    }
+    if rate == 0 {
+        return Encoded::Refused(Error::ZeroSampleRate);
+    }
+    let count = channels as usize;
+    if pcm.len() % count != 0 {
+        return Encoded::Refused(Error::MisalignedInterleavedSamples);
+    }
+    let samples = pcm.len() / count;
+    if 4294967295 < samples {
+        return Encoded::Refused(Error::TooManySamples);
+    }
+    let h = header_for(settings, channels, rate, samples as u32);
+    let needed = inspect::stream_length(h);
+    if out.len() < needed {
+        return Encoded::Refused(Error::OutputTooShort(needed));
+    }
+    put_header(out, h);
+    encode_fragments(settings, pcm, count, out);
+    Encoded::Written(Encoding { length: needed })
+}
+
+// The same, with the Rust's parameters.
+pub fn encode_interleaved(
+    pcm: &[i16],
+    channels: u8,
+    rate: u32,
+    variant: Variant,
+    gain: u8,
+    out: &mut [u8],
+) -> Encoded
+    ensures { λ r. ⌜ AsEncoded (record { variant = variant; gain = gain }) (now (pcm .entry)) channels rate (now (out .entry)) r (now (out .exit)) ⌝ }
+{
+    encode(Settings { variant, gain }, pcm, channels, rate, out)
 }
 
 // Internal: the first n samples of a fragment go to their channel's places, sample w to (first + w) * channels + channel.
