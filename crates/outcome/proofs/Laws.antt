@@ -8,7 +8,7 @@ use mathlib.Core.List.{List, [], _++_, append-nil}
 use lib.ListN.{length, drop}
 use lib.Seq.{drop-length}
 use borrow.Author.Tests.{lt-ltb, le-ltb, lt-leb, le-leb, eq-eqb, ne-eqb, not-true, not-false}
-use Rattle.outcome.specs.Outcome.{Outcome, result, refused, refuseIf, need, andThen, onResult, inOrder, outputAfter, Refuses}
+use Rattle.outcome.specs.Outcome.{Outcome, result, refused, refuseIf, need, branch, andThen, onResult, inOrder, outputAfter, Refuses}
 use Rattle.outcome.proofs.Flags.{not-both, via}
 
 -- ---- one check, from an answer: the ruleset `checks` closes each return of a function that makes the checks of a chain
@@ -29,7 +29,15 @@ pub pass : {A : Type 0} (b : Bool) (n : ℕ) (vs : List ℕ) (x rest : Outcome A
 unfolding need
 pass b n vs x rest e h = rw e h
 
-pub ruleset checks = (met, clear, fail, pass, lt-ltb, le-ltb, lt-leb, le-leb, eq-eqb, ne-eqb, not-true, not-false, via)
+pub first-way : {A : Type 0} (b : Bool) (x one other : Outcome A) → b ≡ true → x ≡ one → x ≡ branch b one other
+unfolding branch
+first-way b x one other e h = rw e h
+
+pub second-way : {A : Type 0} (b : Bool) (x one other : Outcome A) → b ≡ false → x ≡ other → x ≡ branch b one other
+unfolding branch
+second-way b x one other e h = rw e h
+
+pub ruleset checks = (met, clear, fail, pass, first-way, second-way, lt-ltb, le-ltb, lt-leb, le-leb, eq-eqb, ne-eqb, not-true, not-false, via)
 
 -- ---- one check, from the chain: where the chain gives a result, its check has passed
 

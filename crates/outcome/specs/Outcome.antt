@@ -19,6 +19,11 @@ unfoldable pub need : {A : Type 0} → Bool → ℕ → List ℕ → Outcome A �
 need true n vs rest = rest
 need false n vs rest = refused n vs
 
+-- two ways to go on: the first where the test holds, and else the second
+unfoldable pub branch : {A : Type 0} → Bool → Outcome A → Outcome A → Outcome A
+branch true one other = one
+branch false one other = other
+
 -- one check and then the rest: a chain of checks is written in the paper's order, a line a cause, and the first that refuses counts
 infixr 1 _⟫_
 abbrev pub _⟫_ : {A : Type 0} → (Outcome A → Outcome A) → Outcome A → Outcome A
