@@ -135,6 +135,16 @@ pub struct Returned {
     pub state: State,
 }
 
+// A refusal returns the state that it was given.
+fn refused(error: Error, state: State) -> Returned
+    ensures { λ r. ⌜ (r .answer ≡ FragmentDecoded.Refused error) × (r .state ≡ state) ⌝ }
+{
+    Returned {
+        answer: FragmentDecoded::Refused(error),
+        state,
+    }
+}
+
 // Decodes as many samples of one fragment as the output has places, at most a frame's. Versions 1 and 2 go on from the state and
 // return the one after the last sample; version 3 returns the given state. A refusal leaves the state and the output as they were.
 pub fn decode_one(
@@ -148,16 +158,13 @@ pub fn decode_one(
         (r .answer) (r .state) (now (out .exit)) ⌝ }
 {
     if !format::known_version(version) {
-        let answer = FragmentDecoded::Refused(Error::UnsupportedVersion(version));
-        return Returned { answer, state };
+        return refused(Error::UnsupportedVersion(version), state);
     }
     if !fragment_fits(version, variant, fragment, out.len()) {
-        let answer = FragmentDecoded::Refused(Error::InvalidFragment);
-        return Returned { answer, state };
+        return refused(Error::InvalidFragment, state);
     }
     if !state_fits(version, state) {
-        let answer = FragmentDecoded::Refused(Error::InvalidState);
-        return Returned { answer, state };
+        return refused(Error::InvalidState, state);
     }
     let n = out.len();
     let next = decode_checked(version, variant, state, fragment, out);

@@ -115,13 +115,13 @@ fn encode_fragments(settings: Settings, pcm: &[i16], channels: usize, out: &mut 
     let variant = settings.variant;
     let size = variant.fragment_size();
     let total = pcm.len() / channels;
-    let fragments = (total + 62) / 63 * channels;
+    let places = (total + 62) / 63 * channels;
     let mut p = 0;
-    while p < fragments {
-        let channel = p % channels;
+    while p < places {
+        let c = p % channels;
         let first = p / channels * 63;
         let n = count_from(total, first);
-        let s = gather(pcm, first, channels, channel, n);
+        let s = gather(pcm, first, channels, c, n);
         let at = 16 + p * size;
         let end = at + size;
         trial::encode_fragment(settings, &s[..n], &mut out[at..end]);

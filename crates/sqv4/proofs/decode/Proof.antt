@@ -1,63 +1,58 @@
-use Rattle.sqv4.proofs.Decoding.{decode-short, decode-filled, decode-stopped}
-use Rattle.format.proofs.Sizes.{channels-few}
-use Rattle.format.proofs.Accepted.{accepted}
-use Rattle.format.specs.Answers.{inspectedOf}
+-- `sqv4::decode` meets its contract. Assumes nothing.
+use mathlib.Core.Path.{sym}
 use native.Mathlib.Nat.{mul-le-mul-left}
 use native.Mathlib.Omega.{arith}
-use mathlib.Core.Path.{sym}
 use borrow.Author.Needs.{needs}
+use Rattle.format.proofs.Accepted.{accepted}
+use Rattle.format.proofs.Sizes.{channels-few}
+use Rattle.format.specs.Answers.{inspectedOf}
+use Rattle.sqv4.proofs.Decoding.{decode-short, decode-filled, decode-stopped}
 use Rattle.sqv4.proofs.decode.Statement.{statement}
 use Rattle.sqv4.proofs.decode.Tie as tie
-use Rattle.sqv4.proofs.decode.Reads as reads
-use Rattle.sqv4.proofs.decode.Lts as lts
-use Rattle.inspect.proofs.inspect.Reads as inspect-reads
-use Rattle.sqv4.proofs.decode_fragments.Reads as decode-fragments-reads
 
--- src/lib.rt:166:11
 inspect-requires : tie.Need-inspect-requires
 inspect-requires c κs = search needs
 
--- src/lib.rt:167:29
 enum-known-h : tie.Need-enum-known-h
 enum-known-h c = search needs
 
--- src/lib.rt:168:27
 cast-needed : tie.Need-cast-needed
 cast-needed c = search needs
 
--- src/lib.rt:168:50
 cast-needed-2 : tie.Need-cast-needed-2
 cast-needed-2 c = search needs
 
--- src/lib.rt:168:26
 mul-needed : tie.Need-mul-needed
 unfolding inspectedOf
-mul-needed c = let a = accepted _ _ (sym (rw (c .before .before .before .h .given .1) at (c .before .before .before .before .before .inspect .ensures))) in let few = channels-few _ _ (a .channels) in omega (arith, mul-le-mul-left (c .before .before .before .h .given .0 .0 .samples) (few .1), c .before .struct-known .given)
+mul-needed c =
+    let a = accepted _ _ (sym (rw (c .before .before .before .h .given .1) at (c .before .before .before .before .before .inspect .ensures))) in
+    let few = channels-few _ _ (a .channels) in
+    omega (arith, mul-le-mul-left (c .before .before .before .h .given .0 .0 .samples) (few .1), c .before .struct-known .given)
 
--- src/lib.rt:170:17
 returns : tie.Need-returns
 unfolding inspectedOf
 returns c = decode-short _ _ _ (rw (c .before .before .before .before .h .given .1) at (c .before .before .before .before .before .before .inspect .ensures)) (c .if1 .taken)
 
--- src/lib.rt:172:13
 decode-fragments-requires : tie.Need-decode-fragments-requires
 unfolding inspectedOf
-decode-fragments-requires c κs = let a = accepted _ _ (sym (rw (c .before .before .before .before .before .h .given .1) at (c .before .before .before .before .before .before .before .inspect .ensures))) in let few = channels-few _ _ (a .channels) in (a .version, few .0, few .1, a .size, c .before .if1 .left)
+decode-fragments-requires c κs =
+    let a = accepted _ _ (sym (rw (c .before .before .before .before .before .h .given .1) at (c .before .before .before .before .before .before .before .inspect .ensures))) in
+    let few = channels-few _ _ (a .channels) in
+    (a .version, few .0, few .1, a .size, c .before .if1 .left)
 
--- src/lib.rt:175:28
 enum-known-e : tie.Need-enum-known-e
 enum-known-e c = search needs
 
--- src/lib.rt:163:1
 same-length : tie.Need-same-length
 same-length c = search needs
 
--- src/lib.rt:163:1
 returns-2 : tie.Need-returns-2
 unfolding inspectedOf
-returns-2 c = let q = rw (c .before .before .before .before .before .before .before .h .given .1) at (c .before .before .before .before .before .before .before .before .before .inspect .ensures) in let few = channels-few _ _ (accepted _ _ (sym q) .channels) in decode-filled _ _ _ q (c .before .before .before .if1 .left) (few .0) (few .1) _ (c .before .decode-fragments .ensures)
+returns-2 c =
+    let q = rw (c .before .before .before .before .before .before .before .h .given .1) at (c .before .before .before .before .before .before .before .before .before .inspect .ensures) in
+    let few = channels-few _ _ (accepted _ _ (sym q) .channels) in
+    decode-filled _ _ _ q (c .before .before .before .if1 .left) (few .0) (few .1) _ (c .before .decode-fragments .ensures)
 
--- src/lib.rt:163:1
 returns-3 : tie.Need-returns-3
 unfolding inspectedOf
 returns-3 c = decode-stopped _ _ _ (rw (c .before .e .given .1) at (c .before .before .before .inspect .ensures))

@@ -1,47 +1,40 @@
-use Rattle.sqv4.proofs.DecodeLoop.{place-fits, place-front, place-state}
-use Rattle.format.proofs.Range.{range-fits}
-use lib.Seq.{length-take-le}
+-- `sqv4::decode_place` meets its contract. Assumes nothing.
 use mathlib.Core.Path.{sym}
 use borrow.Author.Needs.{needs}
+use lib.Seq.{length-take-le}
+use Rattle.format.proofs.Range.{range-fits}
+use Rattle.sqv4.proofs.DecodeLoop.{place-fits, place-front, place-state}
 use Rattle.sqv4.proofs.decode_place.Statement.{statement}
 use Rattle.sqv4.proofs.decode_place.Tie as tie
-use Rattle.sqv4.proofs.decode_place.Reads as reads
-use Rattle.sqv4.proofs.decode_place.Lts as lts
-use Rattle.fragment.proofs.decode_checked.Reads as decode-checked-reads
-use Rattle.inspect.proofs.count_at.Reads as count-at-reads
-use Rattle.inspect.proofs.fragment_at.Reads as fragment-at-reads
 
--- src/lib.rt:124:20
 cast-channels : tie.Need-cast-channels
 cast-channels c = search needs
 
--- src/lib.rt:125:34
 div-count-at : tie.Need-div-count-at
 div-count-at c = search needs
 
--- src/lib.rt:125:9
 count-at-requires : tie.Need-count-at-requires
 count-at-requires c κs = search needs
 
--- src/lib.rt:126:9
 fragment-at-requires : tie.Need-fragment-at-requires
 fragment-at-requires c κs = search needs
 
--- src/lib.rt:128:78
 array-borrow-prefix-samples : tie.Need-array-borrow-prefix-samples
 array-borrow-prefix-samples c = search needs
 
--- src/lib.rt:128:78
 slice-aggregate-decode-checked : tie.Need-slice-aggregate-decode-checked
 slice-aggregate-decode-checked c = sym (length-take-le (c .before .before .count-at .result) _ (c .before .before .count-at .ensures .1))
 
--- src/lib.rt:128:9
 decode-checked-requires : tie.Need-decode-checked-requires
-decode-checked-requires c κs = let s = c .before .before .before .before .before .args in let k = c .before .before .before .before .before .pre in (k .0, place-fits (s .h) _ (s .p) (c .before .fragment-at .ensures) (c .before .before .count-at .ensures .0) (length-take-le (c .before .before .count-at .result) _ (c .before .before .count-at .ensures .1)) (k .2) (k .3), range-fits _ _ (k .4))
+decode-checked-requires c κs =
+    let s = c .before .before .before .before .before .args in
+    let k = c .before .before .before .before .before .pre in
+    (k .0, place-fits (s .h) _ (s .p) (c .before .fragment-at .ensures) (c .before .before .count-at .ensures .0) (length-take-le (c .before .before .count-at .result) _ (c .before .before .count-at .ensures .1)) (k .2) (k .3), range-fits _ _ (k .4))
 
--- src/lib.rt:118:1
 returns : tie.Need-returns
-returns c = let s = c .before .before .before .before .before .before .before .args in (place-front (s .h) _ (s .p) (c .before .before .before .fragment-at .ensures) (c .before .before .before .before .count-at .ensures .0) (length-take-le (c .before .before .before .before .count-at .result) _ (c .before .before .before .before .count-at .ensures .1)) (s .state) _ _ (c .before .decode-checked .ensures .1), place-state (s .h) _ (s .p) (c .before .before .before .fragment-at .ensures) (c .before .before .before .before .count-at .ensures .0) (length-take-le (c .before .before .before .before .count-at .result) _ (c .before .before .before .before .count-at .ensures .1)) (s .state) _ (c .before .decode-checked .ensures .0))
+returns c =
+    let s = c .before .before .before .before .before .before .before .args in
+    (place-front (s .h) _ (s .p) (c .before .before .before .fragment-at .ensures) (c .before .before .before .before .count-at .ensures .0) (length-take-le (c .before .before .before .before .count-at .result) _ (c .before .before .before .before .count-at .ensures .1)) (s .state) _ _ (c .before .decode-checked .ensures .1), place-state (s .h) _ (s .p) (c .before .before .before .fragment-at .ensures) (c .before .before .before .before .count-at .ensures .0) (length-take-le (c .before .before .before .before .count-at .result) _ (c .before .before .before .before .count-at .ensures .1)) (s .state) _ (c .before .decode-checked .ensures .0))
 
 pub decode-place-spec : {M : Type 1} → statement M
 decode-place-spec =
