@@ -4,6 +4,9 @@ ghost use mathlib.Core.Path.{_≡_};
 ghost use Prim.Native.Nat.{_≤_};
 ghost use Rattle.format.specs.Layout.{knownVersion, bits, payloadBytes, fragmentSize, frameSamples, variantByte, variantOf};
 ghost use Rattle.format.specs.Decode.{fragmentStart};
+ghost use Rattle.format.specs.Answers.{numberOf, valuesOf};
+ghost use mathlib.Core.List.{[], _∷_};
+ghost use lib.ListN.{take};
 
 // A stream's variant: codes of 4 bits (H) or of 3 bits (L, L+).
 pub enum Variant {
@@ -167,6 +170,90 @@ pub enum Error {
     OutputTooShort(usize),
     InvalidFragment,
     InvalidState,
+}
+
+// The numbers that a refusal returns: the first `count` of two.
+pub struct Values {
+    pub count: usize,
+    pub first: usize,
+    pub second: usize,
+}
+
+impl Values {
+    pub fn none() -> Values
+        ensures { λ r. ⌜ (r .count ≡ 0) × (r .first ≡ 0) × (r .second ≡ 0) ⌝ }
+    {
+        Values {
+            count: 0,
+            first: 0,
+            second: 0,
+        }
+    }
+
+    pub fn one(first: usize) -> Values
+        ensures { λ r. ⌜ (r .count ≡ 1) × (r .first ≡ first) × (r .second ≡ 0) ⌝ }
+    {
+        Values {
+            count: 1,
+            first,
+            second: 0,
+        }
+    }
+}
+
+impl Error {
+    // The number in 01's table.
+    pub fn number(self) -> u8
+        ensures { λ r. ⌜ r ≡ numberOf self ⌝ }
+    {
+        match self {
+            Error::InvalidChannels(_) => 1,
+            Error::ZeroSampleRate => 2,
+            Error::MisalignedInterleavedSamples => 3,
+            Error::TooManySamples => 4,
+            Error::InvalidVariant(_) => 8,
+            Error::TruncatedHeader => 5,
+            Error::InvalidMagic => 6,
+            Error::UnsupportedVersion(_) => 7,
+            Error::InvalidReservedByte(_) => 9,
+            Error::InvalidFileLength {
+                expected: _,
+                actual: _,
+            } => 10,
+            Error::InvalidStepIndex(_) => 11,
+            Error::NonZeroPadding => 12,
+            Error::OutputTooShort(_) => 13,
+            Error::InvalidFragment => 14,
+            Error::InvalidState => 15,
+        }
+    }
+
+    // The numbers returned with it.
+    pub fn values(self) -> Values
+        ensures { λ r. ⌜ take (r .count) (r .first ∷ r .second ∷ []) ≡ valuesOf self ⌝ }
+    {
+        match self {
+            Error::InvalidChannels(b) => Values::one(b as usize),
+            Error::ZeroSampleRate => Values::none(),
+            Error::MisalignedInterleavedSamples => Values::none(),
+            Error::TooManySamples => Values::none(),
+            Error::InvalidVariant(b) => Values::one(b as usize),
+            Error::TruncatedHeader => Values::none(),
+            Error::InvalidMagic => Values::none(),
+            Error::UnsupportedVersion(b) => Values::one(b as usize),
+            Error::InvalidReservedByte(b) => Values::one(b as usize),
+            Error::InvalidFileLength { expected, actual } => Values {
+                count: 2,
+                first: expected,
+                second: actual,
+            },
+            Error::InvalidStepIndex(b) => Values::one(b as usize),
+            Error::NonZeroPadding => Values::none(),
+            Error::OutputTooShort(needed) => Values::one(needed),
+            Error::InvalidFragment => Values::none(),
+            Error::InvalidState => Values::none(),
+        }
+    }
 }
 
 // What inspection answers.
