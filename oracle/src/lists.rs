@@ -13,6 +13,7 @@ pub fn list(name: &str) -> Option<String> {
         "headers" => Some(headers()),
         "steps" => Some(steps()),
         "fragments" => Some(fragments()),
+        "lengths" => Some(lengths()),
         _ => None,
     }
 }
@@ -85,7 +86,7 @@ fn small(random: &mut Random, length: usize) -> Vec<i16> {
 fn signal(random: &mut Random, length: usize) -> Vec<i16> {
     const SIGNALS: [fn(&mut Random, usize) -> Vec<i16>; 4] = [tone, noise, full_scale, small];
     match random.below(5) {
-        4 => {
+        4 if length > 0 => {
             let part = length.div_ceil(4);
             let mut all: Vec<i16> = SIGNALS.iter().flat_map(|signal| signal(random, part)).collect();
             let start = random.below(all.len());
@@ -93,7 +94,7 @@ fn signal(random: &mut Random, length: usize) -> Vec<i16> {
             all.truncate(length);
             all
         }
-        kind => SIGNALS[kind](random, length),
+        kind => SIGNALS[kind % 4](random, length),
     }
 }
 
@@ -141,6 +142,31 @@ fn edges() -> String {
         }
         text += &encode_line(variant, 255, 2, RATE, &[7]);
         text += &encode_line(variant, 255, 2, RATE, &[7, -7, 7]);
+    }
+    text
+}
+
+/// Every variant, channel count and version at the lengths around one frame's end and two's, each stream inspected too; and case 10:
+/// an index of 88 and of 89, and both halves of the last byte after 63 H samples.
+fn lengths() -> String {
+    let mut random = Random::new();
+    let mut text = String::new();
+    for variant in VARIANTS {
+        for channels in 1..=2 {
+            for length in [0, 1, 62, 63, 64, 65, 126, 127, 128, 129] {
+                let signals: Vec<_> = (0..channels).map(|_| signal(&mut random, length)).collect();
+                text += &encode_line(variant, random.byte(), channels, RATE, &interleaved(&signals));
+                for version in 1..=3 {
+                    let stream = hex(&random_stream(&mut random, version, variant, channels, length));
+                    text += &format!("inspect {stream}\ndecode {stream}\n");
+                }
+            }
+        }
+    }
+    for (at, value) in [(17, 88), (17, 89), (49, 0x0F), (49, 0x10), (49, 0x80)] {
+        let loud = changed(&random_stream(&mut random, 3, Variant::H, 1, 63), 16, 255);
+        let stream = hex(&changed(&loud, at, value));
+        text += &format!("inspect {stream}\ndecode {stream}\n");
     }
     text
 }

@@ -5,6 +5,7 @@ mod answer;
 mod antt;
 mod input;
 mod lists;
+mod record;
 mod search;
 
 /// The reference, unchanged: its two modules, which oracle/run names by their full paths. Not all of it is called.
@@ -19,10 +20,11 @@ use std::process::ExitCode;
 
 const USAGE: &str = "usage: oracle/run answers < LIST
        oracle/run antt < LIST
-       oracle/run inputs matrix|edges|decode|headers|steps|fragments|search";
+       oracle/run record < LIST
+       oracle/run inputs matrix|edges|decode|headers|steps|fragments|lengths|search";
 
 fn main() -> ExitCode {
-    match run().and_then(|text| io::stdout().write_all(text.as_bytes()).map_err(|error| error.to_string())) {
+    match run().and_then(|output| io::stdout().write_all(&output).map_err(|error| error.to_string())) {
         Ok(()) => ExitCode::SUCCESS,
         Err(message) => {
             eprintln!("{message}");
@@ -32,14 +34,15 @@ fn main() -> ExitCode {
 }
 
 /// The whole output, or what is wrong. Nothing is printed of a list that has a bad line.
-fn run() -> Result<String, String> {
+fn run() -> Result<Vec<u8>, String> {
     let arguments: Vec<String> = std::env::args().skip(1).collect();
     let words: Vec<&str> = arguments.iter().map(String::as_str).collect();
     match words[..] {
-        ["answers"] => Ok(read_list()?.iter().map(|(_, input)| answer::line(input)).collect()),
-        ["antt"] => antt::file(&read_list()?),
-        ["inputs", "search"] => Ok(search::list()),
-        ["inputs", name] => lists::list(name).ok_or(USAGE.to_string()),
+        ["answers"] => Ok(read_list()?.iter().flat_map(|(_, input)| answer::line(input).into_bytes()).collect()),
+        ["antt"] => antt::file(&read_list()?).map(String::into_bytes),
+        ["record"] => record::file(&read_list()?),
+        ["inputs", "search"] => Ok(search::list().into_bytes()),
+        ["inputs", name] => lists::list(name).map(String::into_bytes).ok_or(USAGE.to_string()),
         _ => Err(USAGE.to_string()),
     }
 }

@@ -84,7 +84,7 @@ module _ {S : Type 0} (z : S) (c : ℕ) (g : ℕ → S → S) (states : List S) 
   unfolding statesAfter
   length-states zero = refl
   length-states (suc p) =
-      length-set (statesAfter z c g states p) (p % c) (g p (getD (statesAfter z c g states p) (p % c) z)) ∙ length-states p
+      length-set (statesAfter z c g states p) (p % c) _ ∙ length-states p
 
   module _ (fresh : (k : ℕ) → k < c → getD states k z ≡ z) where
     states-at : (p k : ℕ) → k < c → getD (statesAfter z c g states p) k z ≡ chain z c g k (turns c p k)

@@ -1,0 +1,296 @@
+// Replays answers that were recorded from the Rust. data/answers holds questions to the encoder, to inspection and to the decoder, each
+// with the Rust's answer as bytes; oracle/README.md has the layout. Each question is asked of the proved functions, and the answer's
+// bytes are compared. The program prints how many answers there were and how many differ.
+use format::Decoded;
+use format::Encoded;
+use format::Error;
+use format::Inspected;
+use format::Variant;
+use libc::STDOUT_FILENO;
+
+// What one turn found: the end of the list, an answer, one that differs, or a list that breaks off.
+enum Turn {
+    End,
+    Same,
+    Differs,
+    Broken,
+}
+
+// The first n elements, all where there are no more.
+fn front(s: &[u8], n: usize) -> &[u8] {
+    if n < s.len() { &s[..n] } else { s }
+}
+
+fn front_samples(s: &[i16], n: usize) -> &[i16] {
+    if n < s.len() { &s[..n] } else { s }
+}
+
+// The part from byte k on, nothing past the end.
+fn tail(q: &[u8], k: usize) -> &[u8] {
+    if k <= q.len() { &q[k..] } else { &q[..0] }
+}
+
+fn byte_at(q: &[u8], k: usize) -> u8 {
+    if k < q.len() { q[k] } else { 0 }
+}
+
+fn two_at(q: &[u8], k: usize) -> usize {
+    let part = tail(q, k);
+    if part.len() < 2 {
+        return 0;
+    }
+    digits::le16(part, 0) as usize
+}
+
+fn word_at(q: &[u8], k: usize) -> u32 {
+    let part = tail(q, k);
+    if part.len() < 4 {
+        return 0;
+    }
+    digits::le32(part, 0)
+}
+
+// Puts a byte at a place of the answer, and returns the next place; past the end nothing is put.
+fn put(out: &mut [u8], at: usize, b: u8) -> usize {
+    if at < out.len() {
+        out[at] = b;
+        return at + 1;
+    }
+    at
+}
+
+fn put_two(out: &mut [u8], at: usize, x: usize) -> usize {
+    let next = put(out, at, (x % 256) as u8);
+    put(out, next, (x / 256 % 256) as u8)
+}
+
+fn put_eight(out: &mut [u8], at: usize, x: usize) -> usize {
+    let a = put_two(out, at, x);
+    let b = put_two(out, a, x / 65536);
+    let c = put_two(out, b, x / 65536 / 65536);
+    put_two(out, c, x / 65536 / 65536 / 65536)
+}
+
+fn put_bytes(out: &mut [u8], at: usize, s: &[u8]) -> usize {
+    let mut next = at;
+    let mut i = 0;
+    while i < s.len() {
+        next = put(out, next, s[i]);
+        i += 1;
+    }
+    next
+}
+
+fn put_samples(out: &mut [u8], at: usize, s: &[i16]) -> usize {
+    let mut next = at;
+    let mut i = 0;
+    while i < s.len() {
+        let bytes = signed::sample_bytes(s[i]);
+        next = put(out, next, bytes[0]);
+        next = put(out, next, bytes[1]);
+        i += 1;
+    }
+    next
+}
+
+// A refusal: 0, its number, how many numbers it returns, and those in eight bytes each.
+fn put_refused(out: &mut [u8], e: Error) -> usize {
+    let values = e.values();
+    let a = put(out, 0, 0);
+    let b = put(out, a, e.number());
+    let c = put(out, b, (values.count % 256) as u8);
+    if values.count == 0 {
+        return c;
+    }
+    let d = put_eight(out, c, values.first);
+    if values.count == 1 {
+        return d;
+    }
+    put_eight(out, d, values.second)
+}
+
+// The samples of a question's bytes, as many as fit.
+fn load(s: &[u8], out: &mut [i16]) -> usize {
+    let n = s.len() / 2;
+    if out.len() < n {
+        return 0;
+    }
+    let mut i = 0;
+    while i < n {
+        out[i] = signed::sample_of(s[2 * i], s[2 * i + 1]);
+        i += 1;
+    }
+    n
+}
+
+// Kind 1: variant, gain, channels, rate, samples. A result: 1, and the stream.
+fn ask_encode(q: &[u8], out: &mut [u8]) -> usize {
+    let variant = Variant::from_byte(byte_at(q, 1));
+    let mut pcm = [0i16; 1024];
+    let n = load(tail(q, 8), &mut pcm);
+    let samples = front_samples(&pcm, n);
+    let mut stream = [165u8; 1024];
+    match sqv4::encode_interleaved(
+        samples,
+        byte_at(q, 3),
+        word_at(q, 4),
+        variant,
+        byte_at(q, 2),
+        &mut stream,
+    ) {
+        Encoded::Written(w) => {
+            let at = put(out, 0, 1);
+            put_bytes(out, at, front(&stream, w.length))
+        }
+        Encoded::Refused(e) => put_refused(out, e),
+    }
+}
+
+// Kind 2: a stream. A result: 1, version, variant, channels, rate, samples.
+fn ask_inspect(q: &[u8], out: &mut [u8]) -> usize {
+    match inspect::inspect(tail(q, 1)) {
+        Inspected::Accepted(h) => {
+            let variant = h.variant;
+            let a = put(out, 0, 1);
+            let b = put(out, a, h.version);
+            let c = put(out, b, variant.byte());
+            let d = put(out, c, h.channels);
+            let e = put_eight(out, d, h.rate as usize);
+            put_eight(out, e, h.samples as usize)
+        }
+        Inspected::Refused(e) => put_refused(out, e),
+    }
+}
+
+// Kind 3: a stream. A result: 1, and the samples.
+fn ask_decode(q: &[u8], out: &mut [u8]) -> usize {
+    let mut pcm = [0i16; 1024];
+    match sqv4::decode(tail(q, 1), &mut pcm) {
+        Decoded::Filled(h) => {
+            let n = (h.samples as usize) * (h.channels as usize);
+            let at = put(out, 0, 1);
+            put_samples(out, at, front_samples(&pcm, n))
+        }
+        Decoded::Refused(e) => put_refused(out, e),
+    }
+}
+
+fn ask(q: &[u8], out: &mut [u8]) -> usize {
+    let kind = byte_at(q, 0);
+    if kind == 1 {
+        return ask_encode(q, out);
+    }
+    if kind == 2 {
+        return ask_inspect(q, out);
+    }
+    ask_decode(q, out)
+}
+
+// Whether the answer to the first `asked` bytes of a record is the rest of it.
+fn is_answered(record: &[u8], asked: usize) -> bool {
+    let mut mine = [0u8; 2048];
+    let n = ask(front(record, asked), &mut mine);
+    check::same(front(&mine, n), tail(record, asked))
+}
+
+// Whether the next n bytes of the list could be read to the front of a buffer.
+fn read_exact(fd: i32, buffer: &mut [u8], n: usize) -> bool {
+    if buffer.len() < n {
+        return false;
+    }
+    io::read_full(fd, &mut buffer[..n]) == n
+}
+
+// Reads a record of so many bytes and tries it.
+fn try_record(fd: i32, asked: usize, told: usize) -> Turn {
+    if 2048 < asked {
+        return Turn::Broken;
+    }
+    if 2048 < told {
+        return Turn::Broken;
+    }
+    let end = asked + told;
+    let mut record = [0u8; 4096];
+    if !read_exact(fd, &mut record, end) {
+        return Turn::Broken;
+    }
+    if is_answered(front(&record, end), asked) {
+        return Turn::Same;
+    }
+    Turn::Differs
+}
+
+// One question with its answer: the sizes of both, two bytes each, then both.
+fn replay_one(fd: i32) -> Turn {
+    let mut sizes = [0u8; 4];
+    let got = io::read_full(fd, &mut sizes);
+    if got == 0 {
+        return Turn::End;
+    }
+    if got != 4 {
+        return Turn::Broken;
+    }
+    try_record(fd, two_at(&sizes, 0), two_at(&sizes, 2))
+}
+
+// What the whole list gave.
+struct Tally {
+    answers: u32,
+    differ: u32,
+    whole: bool,
+}
+
+// The list's records, of which there are fewer than a million.
+fn replay_all(fd: i32) -> Tally {
+    let mut answers: u32 = 0;
+    let mut differ: u32 = 0;
+    let mut left: u32 = 1000000;
+    while 0 < left {
+        left -= 1;
+        match replay_one(fd) {
+            Turn::End => {
+                return Tally {
+                    answers,
+                    differ,
+                    whole: true,
+                };
+            }
+            Turn::Same => {
+                answers += 1;
+            }
+            Turn::Differs => {
+                answers += 1;
+                differ += 1;
+            }
+            Turn::Broken => {
+                return Tally {
+                    answers,
+                    differ,
+                    whole: false,
+                };
+            }
+        }
+    }
+    Tally {
+        answers,
+        differ,
+        whole: false,
+    }
+}
+
+fn main() {
+    let fd = os::open_read(b"answers");
+    if fd < 0 {
+        os::fail(b"answers");
+        return;
+    }
+    let tally = replay_all(fd);
+    libc::close(fd);
+    io::print_decimal(STDOUT_FILENO, tally.answers as u64);
+    io::write_all(STDOUT_FILENO, b" answers, ");
+    io::print_decimal(STDOUT_FILENO, tally.differ as u64);
+    io::write_all(STDOUT_FILENO, b" differ\n");
+    if !tally.whole {
+        io::write_all(STDOUT_FILENO, b"the list breaks off\n");
+    }
+}
