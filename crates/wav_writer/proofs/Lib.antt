@@ -1,0 +1,4 @@
+pub mod SampleLoop
+pub mod Written
+pub mod Fields
+pub mod RoundTrip
