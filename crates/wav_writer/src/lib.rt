@@ -5,18 +5,8 @@ ghost use mathlib.Core.Path.{_≡_};
 ghost use mathlib.Core.List.{_++_};
 ghost use Prim.Native.Nat.{_+_, _*_, _≤_};
 ghost use lib.ListN.{length, drop};
-ghost use Rattle.wav.specs.Wave.{oneOrTwo, frameBytes};
+ghost use Rattle.wav.specs.Wave.{frameBytes};
 ghost use Rattle.wav_writer.specs.Writer.{waveHeader, sampleBytes, AsWritten};
-
-// Whether a file of so many channels is written: mono and stereo are.
-fn channels_fit(channels: u8) -> bool
-    ensures { λ r. ⌜ r ≡ oneOrTwo channels ⌝ }
-{
-    if channels == 1 {
-        return true;
-    }
-    channels == 2
-}
 
 // Internal: the 44 bytes before `size` bytes of samples.
 fn wave_header(channels: u8, rate: u32, byte_rate: u32, size: u32) -> [u8; 44]
@@ -93,7 +83,7 @@ fn put_samples(samples: &[i16], out: &mut [u8])
 pub fn write_pcm16_wave(channels: u8, rate: u32, samples: &[i16], out: &mut [u8]) -> WaveFilled
     ensures { λ r. ⌜ AsWritten channels rate (now (samples .entry)) (now (out .entry)) r (now (out .exit)) ⌝ }
 {
-    if !channels_fit(channels) {
+    if !wav::one_or_two(channels as u16) {
         return WaveFilled::Refused(WaveError::WriterChannels);
     }
     let size = 2 * samples.len();

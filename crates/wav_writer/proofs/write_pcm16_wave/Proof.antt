@@ -12,8 +12,8 @@ use borrow.Author.Needs.{needs}
 use Rattle.wav_writer.proofs.write_pcm16_wave.Statement.{statement}
 use Rattle.wav_writer.proofs.write_pcm16_wave.Tie as tie
 
-channels-fit-requires : tie.Need-channels-fit-requires
-channels-fit-requires c κs = search needs
+one-or-two-requires : tie.Need-one-or-two-requires
+one-or-two-requires c κs = search needs
 
 returns : tie.Need-returns
 unfolding writeCall numberOf valuesOf
@@ -37,7 +37,7 @@ mul-byte-rate : tie.Need-mul-byte-rate
 mul-byte-rate c = search needs
 
 mul-byte-rate-2 : tie.Need-mul-byte-rate-2
-mul-byte-rate-2 c = omega (arith, rate-few (c .before .before .before .before .before .args .channels) (c .before .before .before .before .before .args .rate) (via _ _ _ (c .before .before .before .channels-fit .ensures) (not-false _ (c .before .before .if1 .left))))
+mul-byte-rate-2 c = omega (arith, rate-few (c .before .before .before .before .before .args .channels) (c .before .before .before .before .before .args .rate) (via _ _ _ (c .before .before .before .one-or-two .ensures) (not-false _ (c .before .before .if1 .left))))
 
 returns-4 : tie.Need-returns-4
 unfolding writeCall numberOf valuesOf
@@ -57,7 +57,7 @@ cast-wave-header-2 : tie.Need-cast-wave-header-2
 cast-wave-header-2 c = search needs
 
 wave-header-requires : tie.Need-wave-header-requires
-wave-header-requires c κs = (channels-few _ (via _ _ _ (c .before .before .before .before .before .channels-fit .ensures) (not-false _ (c .before .before .before .before .if1 .left))) .1, omega arith, refl)
+wave-header-requires c κs = (channels-few _ (via _ _ _ (c .before .before .before .before .before .one-or-two .ensures) (not-false _ (c .before .before .before .before .if1 .left))) .1, omega arith, refl)
 
 slice-aggregate-copy : tie.Need-slice-aggregate-copy
 slice-aggregate-copy c = search needs
@@ -88,7 +88,7 @@ pub write-pcm16-wave-spec : {M : Type 1} → statement M
 write-pcm16-wave-spec =
     tie.close
     (tie.spec
-    channels-fit-requires
+    one-or-two-requires
     returns
     mul-size
     returns-2
