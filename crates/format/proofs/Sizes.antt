@@ -18,6 +18,11 @@ use Rattle.format.specs.declared.Header.{Header}
 use Rattle.format.proofs.Variant.{the-type}
 use Rattle.digits.specs.Digits.{digits}
 
+pub bits-some : (v : Variant) → 0 < bits v
+bits-some H = omega arith
+bits-some L = omega arith
+bits-some LPlus = omega arith
+
 pub bits-few : (v : Variant) → bits v ≤ 4
 bits-few H = omega arith
 bits-few L = omega arith

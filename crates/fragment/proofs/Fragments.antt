@@ -13,15 +13,13 @@ use Rattle.digits.proofs.Laws.{digits-at, small-digits, tail-all}
 use Rattle.format.specs.Layout.{anew, bits, prefix, payload, frameSamples, volumeByte}
 use Rattle.format.specs.Decode.{startState, codesOf, after, decodedFragment}
 use Rattle.format.specs.declared.Variant.{Variant}
-use Rattle.format.specs.declared.Variant.the-variants.{H, L, LPlus}
 use Rattle.format.specs.declared.State.{State}
+use Rattle.format.proofs.Sizes.{bits-some, bits-few}
 use Rattle.fragment.specs.Run.{sampleAt}
 use Rattle.fragment.proofs.Run.{after-same, samples-same}
 
 pub bits-held : {b : ℕ} (variant : Variant) → b ≡ bits variant → (0 < b) × (b ≤ 8)
-bits-held H e = (omega arith, omega arith)
-bits-held L e = (omega arith, omega arith)
-bits-held LPlus e = (omega arith, omega arith)
+bits-held variant e = (omega (arith, e, bits-some variant), omega (arith, e, bits-few variant))
 
 frame-few : (b : Bool) → cond b 63 64 ≤ 64
 frame-few true = omega arith

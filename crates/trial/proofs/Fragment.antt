@@ -14,7 +14,6 @@ use Rattle.format.specs.Layout.{bits, payloadBytes}
 use Rattle.format.specs.Gain.{pregained, ownVolume}
 use Rattle.format.specs.Encode.{bestTrial, silentTrial, bestOrSilent, fragmentBytes, encodedFragment}
 use Rattle.format.specs.declared.Variant.{Variant}
-use Rattle.format.specs.declared.Variant.the-variants.{H, L, LPlus}
 use Rattle.format.specs.declared.Settings.{Settings}
 
 -- ---- zero codes: they fit, and their number is that of no codes
@@ -41,11 +40,6 @@ module _ (k : Settings) (v : ℕ) (xs : List ℤ) where
   is-best h = rw (ne-eqb v 0 h)
 
 -- ---- a fragment's bytes
-
-pub bits-some : (variant : Variant) → 0 < bits variant
-bits-some H = omega arith
-bits-some L = omega arith
-bits-some LPlus = omega arith
 
 -- the volume of a fragment's own samples, and index and codes of its trial: the codes as others of the same number
 pub bytes-are : (k : Settings) (samples xs : List ℤ) (v index w n : ℕ) (codes : List ℕ) {out : List ℕ} → out ≡ v ∷ index ∷ packed w n codes

@@ -7,7 +7,8 @@ use denote.Ref.{now}
 use borrow.Author.Needs.{needs}
 use Rattle.format.proofs.Sizes.{bits-few, payload-few}
 use Rattle.format.specs.Layout.{bits, payloadBytes}
-use Rattle.trial.proofs.Fragment.{bits-some, bytes-are}
+use Rattle.format.proofs.Sizes.{bits-some}
+use Rattle.trial.proofs.Fragment.{bytes-are}
 use Rattle.trial.proofs.encode_fragment.Statement.{statement}
 use Rattle.trial.proofs.encode_fragment.Tie as tie
 
