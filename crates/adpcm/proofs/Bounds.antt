@@ -13,7 +13,7 @@ use Rattle.signed.specs.Signed.{withSign}
 use Rattle.signed.proofs.Laws.{natAbs-withSign, product-le, Read, small-read}
 use Rattle.format.specs.Tables.{steps, hIndexAdjust, lIndexAdjust, lLevels, lPlusLevels, legacyLPlusLevels}
 use Rattle.format.specs.Layout.{bits}
-use Rattle.format.specs.Step.{stepAt, bitSet, part, hSize, lSize, levels, levelOf, difference, adjustment}
+use Rattle.format.specs.Step.{stepAt, bitSet, hSize, lSize, levels, levelOf, difference, adjustment}
 use Rattle.format.specs.Encode.{lCode, codeFor}
 use Rattle.format.specs.declared.Variant.{Variant}
 use Rattle.format.specs.declared.Variant.the-variants.{H, L, LPlus}

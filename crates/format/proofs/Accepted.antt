@@ -1,14 +1,14 @@
 -- What it means that inspection accepts a stream. Assumes nothing.
-use mathlib.Core.Path.{_≡_, refl, sym, _∙_, subst}
-use mathlib.Core.Bool.{Bool, true, false}
-use mathlib.Core.List.{List, [], _∷_}
-use Prim.Native.Nat.{ℕ, zero, suc, _+_, _*_, _/_, _<_}
+use mathlib.Core.Path.{_≡_, subst}
+use mathlib.Core.Bool.{true, false}
+use mathlib.Core.List.{List}
+use Prim.Native.Nat.{ℕ, zero, suc, _*_, _/_, _<_}
 use borrow.Author.Tests.{eqb-true}
-use lib.ListN.{length, getD}
-use Rattle.outcome.specs.Outcome.{Outcome, result, inOrder, andThen}
+use lib.ListN.{length}
+use Rattle.outcome.specs.Outcome.{result, inOrder}
 use Rattle.outcome.proofs.Laws.{cleared, passed, then-passed, order-passed}
 use Rattle.format.specs.Layout.{knownVersion, channelsFit, headerOf, frames, streamLength, fragmentAtPlace}
-use Rattle.format.specs.Inspect.{headerChecks, indexTooHigh, unusedZero, fragmentChecks, inspected}
+use Rattle.format.specs.Inspect.{headerChecks, indexTooHigh, fragmentChecks, inspected}
 use Rattle.format.specs.declared.Header.{Header}
 
 pub record Accepted (d : List ℕ) (h : Header) : Type 0 where

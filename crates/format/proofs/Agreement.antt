@@ -6,12 +6,11 @@ use native.Mathlib.Omega.{arith}
 use lib.Arith.{digits-lt, digits-div, digits-mod}
 use lib.IntN.{ℤ, pos}
 use lib.ListN.{length, getD}
-use Rattle.outcome.specs.Outcome.{Outcome, result, andThen}
+use Rattle.outcome.specs.Outcome.{result}
 use Rattle.outcome.proofs.Laws.{cleared, then-result}
-use Rattle.lists.specs.Lists.{tabulate}
 use Rattle.lists.proofs.ByIndex.{length-tabulate, getD-tabulate}
-use Rattle.format.specs.Layout.{wholeFrame, frames, count, fragmentAt}
-use Rattle.format.specs.Decode.{decodedFragment, stateBefore, frameDecoded, channelSample, decoded}
+use Rattle.format.specs.Layout.{wholeFrame, frames, fragmentAt}
+use Rattle.format.specs.Decode.{stateBefore, channelSample, decoded}
 use Rattle.format.specs.Inspect.{Sound, inspected, decodeCall}
 use Rattle.format.proofs.Sizes.{frame-pos, frame-below}
 use Rattle.format.specs.declared.Header.{Header}

@@ -3,8 +3,7 @@ use mathlib.Core.Path.{_≡_, refl, sym, _∙_, ap}
 use mathlib.Core.List.{List, [], _∷_}
 use Prim.Native.Nat.{ℕ}
 use lib.ListN.{getD}
-use Rattle.outcome.specs.Outcome.{Outcome, result, refused}
-use Rattle.format.specs.Answers.{numberOf, valuesOf, refusal, inspectedOf, encodedOf, decodedOf, fragmentDecodedOf}
+use Rattle.format.specs.Answers.{numberOf, valuesOf, inspectedOf, encodedOf, decodedOf, fragmentDecodedOf}
 use Rattle.format.specs.declared.Error.{Error}
 use Rattle.format.specs.declared.Error.the-variants.{InvalidChannels, ZeroSampleRate, MisalignedInterleavedSamples, TooManySamples, InvalidVariant, TruncatedHeader, InvalidMagic, UnsupportedVersion, InvalidReservedByte, InvalidFileLength, InvalidStepIndex, NonZeroPadding, OutputTooShort, InvalidFragment, InvalidState}
 use Rattle.format.specs.declared.Inspected.{Inspected}

@@ -1,29 +1,28 @@
 -- Channel separation of the encoder, and that inspection accepts what the encoder writes. Assumes nothing.
-use mathlib.Core.Path.{_≡_, refl, sym, _∙_, ap, subst}
-use mathlib.Core.Bool.{Bool, true, false, not, cond}
-use mathlib.Core.List.{List, [], _∷_, _++_, map}
-use Prim.Native.Nat.{ℕ, zero, suc, _+_, _-_, _*_, _/_, _%_, _^_, _≤_, _<_, min}
+use mathlib.Core.Path.{_≡_, refl, sym, _∙_, ap}
+use mathlib.Core.Bool.{true, false}
+use mathlib.Core.List.{List, _++_, map}
+use Prim.Native.Nat.{ℕ, zero, _+_, _*_, _/_, _%_, _^_, _≤_, _<_}
 use native.Mathlib.Omega.{arith}
-use native.Mathlib.Nat.{div-one, mod-one, mod-eq-of-lt, mul-le-mul-left, mul-le-mul-right}
-use borrow.Author.Tests.{lt-ltb, le-ltb, eq-eqb, eqb-true, eqb-false, ltb-false, le-leb, lt-leb, leb-true, ne-eqb}
+use native.Mathlib.Nat.{div-one, mod-one, mod-eq-of-lt, mul-le-mul-left}
+use borrow.Author.Tests.{le-ltb, eq-eqb, eqb-true, ltb-false}
 use lib.Arith.{digits-lt, digits-div, digits-mod}
-use lib.Dec.{ltb, eqb}
+use lib.Dec.{eqb}
 use lib.IntN.{ℤ, pos}
-use lib.ListN.{length, getD, take, drop, length-append, length-take, length-drop, length-map}
+use lib.ListN.{length, getD, take, length-append, length-take, length-drop, length-map}
 use lib.Seq.{drop-append-add}
-use Rattle.outcome.specs.Outcome.{Outcome, result, refuseIf, need, andThen, inOrder}
-use Rattle.outcome.proofs.Flags.{both-true}
+use Rattle.outcome.specs.Outcome.{result}
 use Rattle.outcome.proofs.Laws.{clear, pass, cleared, passed, then-result, order-all}
-use Rattle.lists.specs.Lists.{tabulate, joined}
+use Rattle.lists.specs.Lists.{joined}
 use Rattle.lists.proofs.ByIndex.{length-tabulate, tabulate-ext, tabulate-getD, length-joined, joined-part}
-use Rattle.digits.specs.Digits.{number, digits, stored, field, packed, restZero}
+use Rattle.digits.specs.Digits.{number, digits, packed}
 use Rattle.digits.proofs.Laws.{length-digits, number-digits, rest-packed, rest-less}
-use Rattle.format.specs.Layout.{knownVersion, encoderVersion, versionFor, channelsFit, bits, payloadBytes, fragmentSize, frameSamples, indexByte, payload, variantByte, variantOf, headerBytes, headerOf, frames, count, sizeIn, streamLength, fragmentAtPlace, fragmentAt}
+use Rattle.format.specs.Layout.{knownVersion, encoderVersion, versionFor, channelsFit, bits, payloadBytes, fragmentSize, variantByte, variantOf, headerBytes, headerOf, frames, count, streamLength, fragmentAtPlace, fragmentAt}
 use Rattle.format.specs.Gain.{pregained, ownVolume}
 use Rattle.format.specs.Encode.{Trial, bestOrSilent, fragmentBytes, encodedFragment, channel, frameOf, headerWritten, fragmentFor, encoded, tooMany, encodeCall}
 use Rattle.format.specs.Inspect.{sameLetters, headerChecks, indexTooHigh, unusedZero, fragmentChecks, inspected}
 use Rattle.format.proofs.Sizes.{length-header}
-use Rattle.format.proofs.Trials.{Wrote, best-or-silent-wrote}
+use Rattle.format.proofs.Trials.{best-or-silent-wrote}
 use Rattle.format.specs.declared.Variant.{Variant}
 use Rattle.format.specs.declared.Variant.the-variants.{H, L, LPlus}
 use Rattle.format.specs.declared.Header.{Header}

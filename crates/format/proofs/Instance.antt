@@ -1,7 +1,7 @@
 -- A stream and a list of calls that meet the premises of separation, by computation, and on which a player that keeps one state
 -- for both channels goes wrong. Assumes nothing.
 use mathlib.Core.Path.{_≡_, refl}
-use mathlib.Core.Bool.{Bool, not}
+use mathlib.Core.Bool.{not}
 use mathlib.Core.List.{List, [], _∷_, _++_}
 use Prim.Native.Nat.{ℕ, zero, suc}
 use native.Mathlib.Omega.{arith}

@@ -1,22 +1,21 @@
 -- States stay in range, and a fragment decoder call that the table does not refuse. Assumes nothing.
 use mathlib.Core.Path.{_≡_, refl, sym, _∙_}
-use mathlib.Core.Bool.{Bool, true, false, cond, _&&_, _||_}
+use mathlib.Core.Bool.{Bool, true, false, cond}
 use mathlib.Core.List.{List, [], _∷_}
 use Prim.Native.Nat.{ℕ, zero, suc, _≤_}
 use native.Mathlib.Omega.{arith}
 use borrow.Author.Tests.{le-leb, eq-eqb}
 use lib.Dec.{leb, eqb}
-use lib.IntN.{ℤ, pos}
 use lib.Signed.{mag}
 use lib.ListN.{length, getD}
-use Rattle.outcome.specs.Outcome.{Outcome, result, refused, need, Refuses}
+use Rattle.outcome.specs.Outcome.{Outcome, result, need, Refuses}
 use Rattle.outcome.proofs.Flags.{both-true, either-right}
 use Rattle.outcome.proofs.Laws.{pass}
 use Rattle.lists.proofs.ByIndex.{length-tabulate}
 use Rattle.signed.proofs.Laws.{clamp-fits, clampTo-le}
 use Rattle.format.specs.Layout.{knownVersion, anew, fragmentSize, frameSamples, indexByte, count}
 use Rattle.format.specs.Step.{stepped}
-use Rattle.format.specs.Decode.{zeroState, fragmentStart, startState, codesOf, after, DecodedFragment, decodedFragment, stateBefore, fragmentFits, InRange, stateFits, fragmentCall}
+use Rattle.format.specs.Decode.{zeroState, fragmentStart, codesOf, after, DecodedFragment, decodedFragment, stateBefore, fragmentFits, InRange, stateFits, fragmentCall}
 use Rattle.format.specs.declared.Variant.{Variant}
 use Rattle.format.specs.declared.State.{State}
 use Rattle.format.specs.declared.Header.{Header}

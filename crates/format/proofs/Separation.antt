@@ -2,7 +2,7 @@
 use mathlib.Core.Path.{_≡_, refl, sym, _∙_, ap}
 use mathlib.Core.Bool.{Bool, true, false, cond}
 use mathlib.Core.List.{List, [], _∷_}
-use Prim.Native.Nat.{ℕ, zero, suc, _<_}
+use Prim.Native.Nat.{ℕ, suc, _<_}
 use borrow.Author.Tests.{eqb-true}
 use lib.Dec.{eqb}
 use lib.IntN.{ℤ}
@@ -10,13 +10,12 @@ use lib.ListN.{length}
 use Rattle.outcome.specs.Outcome.{Outcome, result, refused, onResult, outputAfter, Refuses}
 use Rattle.outcome.proofs.Laws.{on-result, output-whole, output-refused}
 use Rattle.format.specs.Layout.{anew, frames, count, fragmentAt}
-use Rattle.format.specs.Decode.{zeroState, DecodedFragment, decodedFragment, stateBefore, frameDecoded, fragmentCall, stateLeft, Called, called}
+use Rattle.format.specs.Decode.{zeroState, DecodedFragment, stateBefore, frameDecoded, fragmentCall, stateLeft, called}
 use Rattle.format.specs.Inspect.{inspected}
 use Rattle.format.specs.Calls.{Call, takes, other, channelOf, done, put, statesNext, run, statesAfter, Due, Listed, AsDefined, reached, Separate}
 use Rattle.format.proofs.Sizes.{count-whole, place-below, place-length}
 use Rattle.format.proofs.Range.{before-range, before-anew, length-decoded, call-passes}
 use Rattle.format.proofs.Accepted.{Accepted, accepted}
-use Rattle.format.specs.declared.Variant.{Variant}
 use Rattle.format.specs.declared.State.{State}
 use Rattle.format.specs.declared.Header.{Header}
 

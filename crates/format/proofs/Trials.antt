@@ -1,16 +1,15 @@
 -- What a trial writes: a start of at most 88, and a code for each sample that fits the variant's bits. Assumes nothing.
-use mathlib.Core.Path.{_≡_, refl, sym, _∙_, ap, subst}
+use mathlib.Core.Path.{sym, ap, subst}
 use mathlib.Core.Bool.{Bool, true, false, cond}
 use mathlib.Core.List.{List, [], _∷_, _++_}
-use Prim.Native.Nat.{ℕ, zero, suc, _+_, _*_, _/_, _^_, _≤_, _<_}
+use Prim.Native.Nat.{ℕ, zero, suc, _+_, _/_, _^_, _≤_, _<_}
 use native.Mathlib.Omega.{arith}
 use lib.Dec.{leb, eqb}
 use lib.IntN.{ℤ, pos, natAbs, _-ℤ_}
 use lib.Pow.{pow-pos}
 use lib.Signed.{ltZ}
 use lib.ListN.{length, getD, length-append}
-use Rattle.lists.specs.Lists.{least}
-use Rattle.lists.proofs.Least.{Least, least-is}
+use Rattle.lists.proofs.Least.{least-is}
 use Rattle.digits.proofs.Laws.{Small}
 use Rattle.format.proofs.Sizes.{part-le}
 use Rattle.format.specs.Layout.{bits}

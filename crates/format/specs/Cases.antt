@@ -11,7 +11,7 @@ use Rattle.format.specs.Step.{stepped}
 use Rattle.format.specs.Gain.{pregained, volumeOf, normalised, outputGain}
 use Rattle.format.specs.Decode.{zeroState, Called, fragmentCall, called}
 use Rattle.format.specs.Encode.{tooMany, encodeCall}
-use Rattle.format.specs.Inspect.{inspected, decodeCall}
+use Rattle.format.specs.Inspect.{decodeCall}
 use Rattle.format.specs.Tests.{sameBytes, sameSamples, isState, gives, refuses, ample, settings, encodes, encodeRefused, inspects, inspectRefused, decodes}
 use Rattle.format.specs.declared.Variant.{Variant}
 use Rattle.format.specs.declared.Variant.the-variants.{H, L, LPlus}

@@ -3,11 +3,11 @@
 use Prim.Native.Nat.{ℕ, zero, suc, _*_, _/_, _%_, _≤_, min}
 use mathlib.Core.Bool.{Bool, cond, _&&_, _||_}
 use mathlib.Core.List.{List, [], _∷_}
-use lib.Dec.{leb, ltb, eqb}
+use lib.Dec.{leb, eqb}
 use lib.IntN.{ℤ, pos}
 use lib.Signed.{mag}
 use lib.ListN.{length, getD}
-use Rattle.outcome.specs.Outcome.{Outcome, result, refused, refuseIf, need, _⟫_, onResult, outputAfter}
+use Rattle.outcome.specs.Outcome.{Outcome, result, refused, need, _⟫_, onResult, outputAfter}
 use Rattle.lists.specs.Lists.{tabulate}
 use Rattle.digits.specs.Digits.{unpacked}
 use Rattle.format.specs.Layout.{knownVersion, anew, bits, payload, fragmentSize, frameSamples, volumeByte, indexByte, wholeFrame, count, fragmentAt}

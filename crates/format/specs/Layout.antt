@@ -1,7 +1,7 @@
 -- The SQV4 stream: header, frames, and where each fragment lies. Assumes nothing.
 use Prim.Native.Nat.{ℕ, zero, suc, _+_, _-_, _*_, _/_, min}
 use mathlib.Core.Bool.{Bool, cond, _&&_, _||_}
-use mathlib.Core.List.{List, [], _∷_, _++_}
+use mathlib.Core.List.{List, _∷_, _++_}
 use lib.Dec.{leb, eqb}
 use lib.ListN.{getD, take, drop}
 use Rattle.digits.specs.Digits.{stored, field}

@@ -1,10 +1,9 @@
 -- What a call gives, as tests that compute, for worked cases and for answers that were recorded from the Rust. Assumes nothing.
 use Prim.Native.Nat.{ℕ}
-use mathlib.Core.Bool.{Bool, true, false, _&&_}
-use mathlib.Core.List.{List, [], _∷_}
+use mathlib.Core.Bool.{Bool, false, _&&_}
+use mathlib.Core.List.{List}
 use lib.Dec.{eqb}
-use lib.IntN.{ℤ, pos}
-use lib.ListN.{replicate}
+use lib.IntN.{ℤ}
 use Rattle.outcome.specs.Outcome.{Outcome, result, refused}
 use Rattle.lists.specs.Tests.{eqZ, sameList}
 use Rattle.format.specs.Layout.{variantByte}

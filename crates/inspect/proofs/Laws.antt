@@ -1,24 +1,20 @@
 -- Where fragments lie, and the fragments' checks in file order. Assumes nothing.
-use mathlib.Core.Path.{_≡_, sym, ap, _∙_, subst}
-use mathlib.Core.Bool.{true}
+use mathlib.Core.Path.{_≡_, sym, ap, _∙_}
 use mathlib.Core.List.{List}
-use Prim.Native.Nat.{ℕ, _+_, _-_, _*_, _/_, _≤_, _<_, min}
+use Prim.Native.Nat.{ℕ, _+_, _-_, _*_, _/_, _≤_, _<_}
 use native.Mathlib.Omega.{arith}
 use native.Mathlib.Numerals.{add-one}
-use native.Mathlib.Nat.{mul-le-mul-left, mul-le-mul-right, le-div-iff-mul-le, div-lt-iff-lt-mul, add-sub-cancel-left}
-use borrow.Author.Tests.{eqb-true}
-use lib.Dec.{eqb}
+use native.Mathlib.Nat.{mul-le-mul-right, add-sub-cancel-left}
 use lib.ListN.{length, take, drop}
 use Rattle.outcome.specs.Outcome.{Outcome, result, inOrder}
-use Rattle.outcome.proofs.Flags.{either-elim}
 use Rattle.outcome.proofs.Laws.{cleared, passed, order-next, order-refused}
-use Rattle.format.specs.Layout.{channelsFit, roundedUp, wholeFrame, headerOf, frames, count, sizeIn, streamLength, fragmentAtPlace}
-use Rattle.format.specs.Inspect.{headerChecks, fragmentChecks}
+use Rattle.format.specs.Layout.{frames, sizeIn, streamLength, fragmentAtPlace}
+use Rattle.format.specs.Inspect.{fragmentChecks}
 use Rattle.format.specs.Answers.{inspectedOf}
 use Rattle.format.specs.declared.Header.{Header}
 use Rattle.format.specs.declared.Error.{Error}
 use Rattle.format.specs.declared.Inspected.the-variants.{Accepted, Refused}
-use Rattle.format.proofs.Sizes.{frame-pos, payload-few, place-length}
+use Rattle.format.proofs.Sizes.{payload-few, place-length}
 
 -- ---- fragments
 

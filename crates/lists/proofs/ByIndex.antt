@@ -5,7 +5,7 @@ use native.Mathlib.Omega.{arith}
 use native.Mathlib.Nat.{mul-le-mul-right, le-of-eq}
 use native.Mathlib.Numerals.{add-one}
 use native.Mathlib.Decide.{decLt}
-use mathlib.Core.List.{List, [], _∷_, _++_, map}
+use mathlib.Core.List.{List, [], _∷_, _++_}
 use lib.ListN.{length, getD, take, drop, set, length-append, length-take, length-drop, List·getD-append}
 use lib.Seq.{take-suc-set, drop-at, getD-at, take-all, take-append-le, drop-append-le, ext-getD, getD-take, getD-drop}
 use Rattle.lists.specs.Lists.{tabulate, joined}

@@ -1,6 +1,6 @@
 -- Tests that are made of tests. Assumes nothing.
-use mathlib.Core.Path.{_≡_, refl, sym, ap, _∙_, subst}
-use mathlib.Core.Bool.{Bool, true, false, not, _&&_, _||_}
+use mathlib.Core.Path.{_≡_, refl, sym, _∙_, subst}
+use mathlib.Core.Bool.{Bool, true, false, _&&_, _||_}
 use lib.Dec.{T}
 
 -- a computed test, as an equation and back

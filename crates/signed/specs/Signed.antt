@@ -1,6 +1,6 @@
 -- Signed numbers by sign and magnitude, the clamps, and 16-bit two's complement. `natAbs z` is the magnitude; `pos n` is n and
 -- `negsuc n` is −(n + 1). Cutting toward zero and rounding to nearest act on the magnitude and keep the sign. Assumes nothing.
-use Prim.Native.Nat.{ℕ, suc, _-_, min}
+use Prim.Native.Nat.{ℕ, _-_, min}
 use mathlib.Core.Bool.{Bool, true, false, cond}
 use lib.Dec.{ltb}
 use lib.IntN.{ℤ, pos, negsuc, negℤ, natAbs}

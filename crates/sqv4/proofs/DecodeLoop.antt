@@ -1,11 +1,11 @@
 -- Whole-stream decoding as a loop does it, fragment by fragment in file order with one state for each channel, gives the
 -- definition's samples, which go channel by channel. Assumes nothing.
-use mathlib.Core.Path.{_≡_, refl, sym, _∙_, ap, subst}
+use mathlib.Core.Path.{_≡_, refl, sym, _∙_, ap}
 use Prim.Native.Nat.{ℕ, zero, suc, _+_, _*_, _-_, _/_, _%_, _≤_, _<_}
 use native.Mathlib.Omega.{arith}
 use native.Mathlib.Numerals.{add-one}
 use native.Mathlib.Nat.{div-add-mod', mod-lt}
-use mathlib.Core.List.{List, [], _∷_, _++_}
+use mathlib.Core.List.{List, _++_}
 use lib.Arith.{digits-div, digits-mod}
 use borrow.Author.Tests.{le-leb, eq-eqb}
 use mathlib.Core.Bool.{true}
@@ -14,10 +14,9 @@ use lib.Seq.{take-at}
 use Rattle.outcome.proofs.Flags.{both-true}
 use lib.IntN.{ℤ, pos}
 use lib.ListN.{length, getD, take, drop, set}
-use Rattle.lists.specs.Lists.{tabulate}
 use Rattle.lists.proofs.ByIndex.{tabulate-ext}
 use Rattle.format.specs.Layout.{wholeFrame, frames, count, sizeIn, streamLength, fragmentAtPlace, fragmentAt}
-use Rattle.format.specs.Decode.{zeroState, DecodedFragment, InRange, decodedFragment, stateBefore, frameDecoded, channelSample, decoded, fragmentFits}
+use Rattle.format.specs.Decode.{zeroState, InRange, decodedFragment, stateBefore, frameDecoded, channelSample, decoded, fragmentFits}
 use Rattle.format.proofs.Sizes.{frame-pos, count-whole, place-length}
 use Rattle.sqv4.specs.Loops.{spread, outAfter, statesAfter, placeDecoded, startStates, loopStates, loopSamples, loopOut}
 use Rattle.format.proofs.Range.{before-range, length-decoded}

@@ -1,13 +1,12 @@
 -- What the whole-stream decoder promises, by the three ways in which it returns. Assumes nothing.
 use mathlib.Core.Path.{_≡_, refl, sym, _∙_, ap}
-use mathlib.Core.Bool.{true}
 use mathlib.Core.List.{List, _++_}
 use Prim.Native.Nat.{ℕ, _+_, _*_, _≤_, _<_}
 use native.Mathlib.Omega.{arith}
 use borrow.Author.Tests.{lt-ltb, le-ltb}
 use lib.IntN.{ℤ}
 use lib.ListN.{length, drop}
-use Rattle.outcome.specs.Outcome.{Outcome, result, andThen, onResult, outputAfter}
+use Rattle.outcome.specs.Outcome.{result, onResult, outputAfter}
 use Rattle.outcome.proofs.Laws.{met, clear, then-result, then-refused, on-result, output-result}
 use Rattle.format.specs.Layout.{frames}
 use Rattle.format.specs.Decode.{decoded}
@@ -19,7 +18,6 @@ use Rattle.sqv4.proofs.DecodeLoop.{loop-decodes, fresh}
 use Rattle.format.specs.declared.Header.{Header}
 use Rattle.format.specs.declared.Error.{Error}
 use Rattle.format.specs.declared.Error.the-variants as E
-use Rattle.format.specs.declared.Decoded.{Decoded}
 use Rattle.format.specs.declared.Decoded.the-variants as D
 
 module _ (d : List ℕ) (out : List ℤ) where

@@ -11,7 +11,6 @@ use lib.ListN.{length, take, drop, length-append, length-drop}
 use lib.Seq.{take-at, drop-at, drop-drop}
 use Rattle.outcome.specs.Outcome.{Outcome, result, refuseIf, onResult, outputAfter}
 use Rattle.outcome.proofs.Laws.{met, clear, pass, on-result, output-result}
-use Rattle.lists.specs.Lists.{joined}
 use Rattle.format.specs.Layout.{encoderVersion, channelsFit, fragmentSize, headerBytes, frames, streamLength}
 use Rattle.format.specs.Encode.{headerWritten, fragmentFor, encoded, tooMany, encodeCall}
 use Rattle.format.specs.Answers.{numberOf, valuesOf, refusal, encodedOf, AsEncoded}

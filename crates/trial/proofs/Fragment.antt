@@ -1,8 +1,7 @@
 -- The codes of silence, which trial a fragment holds, and its bytes. Assumes nothing.
 use mathlib.Core.Path.{_≡_, refl}
 use mathlib.Core.List.{List, [], _∷_, map}
-use Prim.Native.Nat.{ℕ, zero, suc, _<_}
-use native.Mathlib.Omega.{arith}
+use Prim.Native.Nat.{ℕ, zero, suc}
 use native.Mathlib.Nat.{mul-zero}
 use lib.IntN.{ℤ}
 use lib.Pow.{pow-pos}
@@ -13,7 +12,6 @@ use Rattle.digits.proofs.Laws.{Small}
 use Rattle.format.specs.Layout.{bits, payloadBytes}
 use Rattle.format.specs.Gain.{pregained, ownVolume}
 use Rattle.format.specs.Encode.{bestTrial, silentTrial, bestOrSilent, fragmentBytes, encodedFragment}
-use Rattle.format.specs.declared.Variant.{Variant}
 use Rattle.format.specs.declared.Settings.{Settings}
 
 -- ---- zero codes: they fit, and their number is that of no codes

@@ -6,7 +6,7 @@ use native.Mathlib.Nat.{le-of-lt, mul-comm, mul-le-mul-right, le-mul-of-pos-righ
 use native.Mathlib.Numerals.{add-one}
 use native.Mathlib.Omega.{arith}
 use borrow.Author.Needs.{needs}
-use lib.ListN.{length, take, set, length-set}
+use lib.ListN.{length, take, length-set}
 use lib.Seq.{take-length, take-suc-set}
 use lib.Pow.{pow-mono}
 use denote.Ref.{now}

@@ -5,8 +5,8 @@ use native.Mathlib.Nat.{mod-lt}
 use native.Mathlib.Omega.{arith}
 use borrow.Author.Needs.{needs}
 use Rattle.format.specs.Layout.{frames}
-use Rattle.sqv4.proofs.DecodeLoop.{Decoding, decoding-none, decoding-range, decoding-more, length-decoding, loop-decodes}
-use Rattle.sqv4.proofs.Places.{frame-of, Room, frame-room}
+use Rattle.sqv4.proofs.DecodeLoop.{Decoding, decoding-none, decoding-range, decoding-more, length-decoding}
+use Rattle.sqv4.proofs.Places.{frame-of, frame-room}
 use Rattle.sqv4.proofs.decode_fragments.Statement.{statement}
 use Rattle.sqv4.proofs.decode_fragments.Tie as tie
 

@@ -1,10 +1,6 @@
 -- `sqv4::put_header` meets its contract. Assumes nothing.
-use mathlib.Core.List.{List, _++_}
 use mathlib.Core.Path.{refl}
-use Prim.Native.Nat.{ℕ}
 use borrow.Author.Needs.{needs}
-use lib.ListN.{take, drop}
-use denote.Ref.{now}
 use Rattle.digits.specs.Digits.{digits}
 use Rattle.format.specs.Layout.{headerBytes}
 use Rattle.sqv4.proofs.put_header.Statement.{statement}
