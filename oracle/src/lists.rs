@@ -14,6 +14,7 @@ pub fn list(name: &str) -> Option<String> {
         "steps" => Some(steps()),
         "fragments" => Some(fragments()),
         "lengths" => Some(lengths()),
+        "waves" => Some(waves()),
         _ => None,
     }
 }
@@ -356,4 +357,194 @@ fn fragment_damages() -> Vec<Vec<u8>> {
         }
     }
     streams
+}
+
+// ---- WAV files
+
+/// The fields of a fmt chunk.
+#[derive(Clone, Copy)]
+struct Fields {
+    encoding: u16,
+    channels: u16,
+    rate: u32,
+    byte_rate: u32,
+    align: u16,
+    bits: u16,
+}
+
+const MONO: Fields = Fields { encoding: 1, channels: 1, rate: RATE, byte_rate: 2 * RATE, align: 2, bits: 16 };
+const STEREO: Fields = Fields { channels: 2, byte_rate: 4 * RATE, align: 4, ..MONO };
+
+/// Two samples of one channel, or one of two.
+const TWO: [u8; 4] = [1, 0, 0, 128];
+
+/// The contents of a fmt chunk: the fields, and zeros up to a size. A smaller size cuts them.
+fn format_bytes(fields: Fields, size: usize) -> Vec<u8> {
+    let Fields { encoding, channels, rate, byte_rate, align, bits } = fields;
+    let mut bytes = [encoding.to_le_bytes(), channels.to_le_bytes()].concat();
+    bytes.extend([rate.to_le_bytes(), byte_rate.to_le_bytes()].concat());
+    bytes.extend([align.to_le_bytes(), bits.to_le_bytes()].concat());
+    bytes.resize(size, 0);
+    bytes
+}
+
+/// A chunk that says a size. There is a pad byte after odd contents.
+fn sized_chunk(letters: &str, contents: &[u8], size: u32) -> Vec<u8> {
+    let pad = vec![0; contents.len() % 2];
+    [letters.as_bytes(), &size.to_le_bytes(), contents, &pad].concat()
+}
+
+fn chunk(letters: &str, contents: &[u8]) -> Vec<u8> {
+    sized_chunk(letters, contents, contents.len() as u32)
+}
+
+fn format_chunk(fields: Fields) -> Vec<u8> {
+    chunk("fmt ", &format_bytes(fields, 16))
+}
+
+/// A file of these chunks, which ends at the RIFF end.
+fn wave(chunks: &[&[u8]]) -> Vec<u8> {
+    let body = chunks.concat();
+    [b"RIFF", &(body.len() as u32 + 4).to_le_bytes()[..], b"WAVE", &body].concat()
+}
+
+/// A file with another RIFF size.
+fn riff_sized(file: &[u8], size: u32) -> Vec<u8> {
+    [&file[..4], &size.to_le_bytes(), &file[8..]].concat()
+}
+
+/// WAV files: every cut and every RIFF size of a small one, chunks in many orders, and each refusal, alone and where two are due.
+fn waves() -> String {
+    let good = wave(&[&format_chunk(MONO), &chunk("data", &TWO)]);
+    let mut files: Vec<_> = (0..good.len()).map(|length| good[..length].to_vec()).collect();
+    files.extend((0..43).chain([u32::MAX]).map(|size| riff_sized(&good, size)));
+    for at in [0, 3, 8, 11] {
+        files.push(changed(&good, at, b'X'));
+        files.push(changed(&riff_sized(&good, 41), at, b'X'));
+    }
+    files.extend(chunk_orders());
+    files.extend(cut_chunks());
+    files.extend(format_damages());
+    files.iter().map(|bytes| format!("wav {}\n", hex(bytes))).collect()
+}
+
+/// Chunks in many orders, none or two of a kind, other letters, and sizes of the fmt and the data chunk.
+fn chunk_orders() -> Vec<Vec<u8>> {
+    let (mono, stereo, data) = (&format_chunk(MONO)[..], &format_chunk(STEREO)[..], &chunk("data", &TWO)[..]);
+    let (list, odd, fact) =
+        (&chunk("LIST", b"INFO")[..], &chunk("odd ", b"odd")[..], &chunk("fact", &[2, 0, 0, 0])[..]);
+    let (none, partial) = (&chunk("data", &[])[..], &chunk("data", &TWO[..3])[..]);
+    let float = Fields { encoding: 3, ..MONO };
+    let mut files = vec![
+        wave(&[mono, data]),
+        wave(&[stereo, data]),
+        wave(&[data, mono]),
+        wave(&[data, stereo]),
+        wave(&[list, mono, data]),
+        wave(&[mono, odd, data]),
+        wave(&[mono, data, odd]),
+        wave(&[odd, mono, list, fact, data, odd]),
+        wave(&[odd, data, odd, stereo, odd]),
+        wave(&[mono, none]),
+        wave(&[none, stereo]),
+        wave(&[mono, partial]),
+        wave(&[partial, stereo]),
+        wave(&[stereo, &chunk("data", &TWO[..2])]),
+        wave(&[]),
+        wave(&[list]),
+        wave(&[mono]),
+        wave(&[data]),
+        wave(&[partial]),
+        wave(&[mono, mono]),
+        wave(&[mono, data, mono]),
+        wave(&[mono, data, data]),
+        wave(&[mono, none, none]),
+        wave(&[mono, mono, data, data]),
+        wave(&[mono, data, mono, data]),
+        wave(&[mono, data, data, mono]),
+        wave(&[data, data]),
+        wave(&[&chunk("FMT ", &format_bytes(float, 16)), data]),
+        wave(&[&format_chunk(float), data, data]),
+        wave(&[&format_chunk(float), data, b"LIST"]),
+        wave(&[mono, &chunk("DATA", &TWO[..3])]),
+    ];
+    for size in [0, 14, 15, 16, 17, 18, 40] {
+        let format = chunk("fmt ", &format_bytes(MONO, size));
+        files.push(wave(&[&format, data]));
+        files.push(wave(&[&format]));
+    }
+    files
+}
+
+/// Chunks that the RIFF end cuts, with the rest of the chunk after it or not, and bytes after the RIFF end.
+fn cut_chunks() -> Vec<Vec<u8>> {
+    let (mono, data) = (&format_chunk(MONO)[..], &chunk("data", &TWO)[..]);
+    let good = wave(&[mono, data]);
+    let mut files = Vec::new();
+    for letters in ["LIST", "fmt ", "data"] {
+        for size in [1, 3, 4, 5, u32::MAX - 1, u32::MAX] {
+            let last = sized_chunk(letters, &TWO[..2], size);
+            files.push(wave(&[mono, data, &last]));
+        }
+    }
+    for size in [2, 3, 4, 5, 6] {
+        files.push(wave(&[mono, &sized_chunk("data", &TWO, size)]));
+    }
+    let far = sized_chunk("data", &[], u32::MAX);
+    let odd = chunk("odd ", b"odd");
+    let short = chunk("fmt ", &format_bytes(MONO, 15));
+    for (last, inside) in [(&far, 1), (&far, 4), (&far, 7), (&odd, 11), (&short, 23)] {
+        let file = [&good[..], last].concat();
+        let cut = &file[..good.len() + inside as usize];
+        files.push(riff_sized(&file, 40 + inside));
+        files.push(riff_sized(cut, 40 + inside));
+        files.push(riff_sized(cut, 41 + inside));
+    }
+    for after in [mono, data, b"?"] {
+        files.push([&good, after].concat());
+    }
+    files
+}
+
+type Spoil = fn(&mut Fields);
+
+/// Damages of the fmt chunk's fields in the order of the checks.
+const SPOILS: [Spoil; 14] = [
+    |fields| fields.encoding = 3,
+    |fields| fields.encoding = 0xFFFE,
+    |fields| fields.bits = 8,
+    |fields| fields.bits = 24,
+    |fields| fields.channels = 0,
+    |fields| fields.channels = 3,
+    |fields| fields.channels = 32769,
+    |fields| fields.rate = 0,
+    |fields| fields.rate = 1 << 30,
+    |fields| fields.rate = u32::MAX,
+    |fields| fields.align = 2,
+    |fields| fields.align = 0,
+    |fields| fields.byte_rate = 2 * RATE,
+    |fields| fields.byte_rate = 4 * RATE + 1,
+];
+
+/// Each damage of the fields, alone, and together with the next one and no data; and rates at the limits.
+fn format_damages() -> Vec<Vec<u8>> {
+    let data = &chunk("data", &TWO)[..];
+    let mut files = Vec::new();
+    for (at, spoil) in SPOILS.iter().enumerate() {
+        let (mut alone, mut both) = (STEREO, STEREO);
+        spoil(&mut alone);
+        if let Some(next) = SPOILS.get(at + 1) {
+            next(&mut both);
+        }
+        spoil(&mut both);
+        files.push(wave(&[&format_chunk(alone), data]));
+        files.push(wave(&[&format_chunk(both)]));
+    }
+    for (fields, rate) in
+        [(MONO, u32::MAX / 2), (MONO, u32::MAX / 2 + 1), (STEREO, u32::MAX / 4), (STEREO, u32::MAX / 4 + 1)]
+    {
+        let byte_rate = rate.wrapping_mul(fields.align as u32);
+        files.push(wave(&[&format_chunk(Fields { rate, byte_rate, ..fields }), data]));
+    }
+    files
 }

@@ -21,7 +21,7 @@ use std::process::ExitCode;
 const USAGE: &str = "usage: oracle/run answers < LIST
        oracle/run antt < LIST
        oracle/run record < LIST
-       oracle/run inputs matrix|edges|decode|headers|steps|fragments|lengths|search";
+       oracle/run inputs matrix|edges|decode|headers|steps|fragments|lengths|waves|search";
 
 fn main() -> ExitCode {
     match run().and_then(|output| io::stdout().write_all(&output).map_err(|error| error.to_string())) {

@@ -35,6 +35,7 @@ fn question(input: &Input) -> Result<Vec<u8>, &'static str> {
         }
         Input::Inspect(stream) => Ok([&[2], &stream[..]].concat()),
         Input::Decode(stream) => Ok([&[3], &stream[..]].concat()),
+        Input::Wav(file) => Ok([&[4], &file[..]].concat()),
         _ => Err("no record of this kind"),
     }
 }
@@ -55,7 +56,12 @@ fn result(answer: &Answer) -> Vec<u8> {
             bytes.extend((*samples as u64).to_le_bytes());
         }
         Answer::Samples(samples) => bytes.extend(sample_bytes(samples)),
-        _ => unreachable!("only encoding, inspection and decoding are recorded"),
+        Answer::Wave(wave) => {
+            bytes.extend((wave.channels as u16).to_le_bytes());
+            bytes.extend((wave.sample_rate as u64).to_le_bytes());
+            bytes.extend(sample_bytes(&wave.samples));
+        }
+        _ => unreachable!("only encoding, inspection, decoding and WAV reading are recorded"),
     }
     bytes
 }

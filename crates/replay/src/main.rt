@@ -1,12 +1,14 @@
-// Replays answers that were recorded from the Rust. data/answers holds questions to the encoder, to inspection and to the decoder, each
-// with the Rust's answer as bytes; oracle/README.md has the layout. Each question is asked of the proved functions, and the answer's
-// bytes are compared. The program prints how many answers there were and how many differ.
+// Replays answers that were recorded from the Rust. data/answers holds questions to the encoder, to inspection, to the decoder and to
+// the reader of WAV files, each with the Rust's answer as bytes; oracle/README.md has the layout. Each question is asked of the proved
+// functions, and the answer's bytes are compared. The program prints how many answers there were and how many differ.
 use format::Decoded;
 use format::Encoded;
 use format::Error;
 use format::Inspected;
 use format::Variant;
 use libc::STDOUT_FILENO;
+use wav::WaveError;
+use wav::WaveRead;
 
 // What one turn found: the end of the list, an answer, one that differs, or a list that breaks off.
 enum Turn {
@@ -175,6 +177,27 @@ fn ask_decode(q: &[u8], out: &mut [u8]) -> usize {
     }
 }
 
+// A refusal of plain WAV reading, which returns no numbers.
+fn put_wave_refused(out: &mut [u8], e: WaveError) -> usize {
+    let a = put(out, 0, 0);
+    let b = put(out, a, e.number());
+    put(out, b, 0)
+}
+
+// Kind 4: a WAV file. A result: 1, channels, rate, and the sample bytes.
+fn ask_wave(q: &[u8], out: &mut [u8]) -> usize {
+    let file = tail(q, 1);
+    match wav::read_pcm16_wave(file) {
+        WaveRead::Accepted(w) => {
+            let a = put(out, 0, 1);
+            let b = put_two(out, a, w.channels as usize);
+            let c = put_eight(out, b, w.rate as usize);
+            put_bytes(out, c, wav::wave_samples(file))
+        }
+        WaveRead::Refused(e) => put_wave_refused(out, e),
+    }
+}
+
 fn ask(q: &[u8], out: &mut [u8]) -> usize {
     let kind = byte_at(q, 0);
     if kind == 1 {
@@ -182,6 +205,9 @@ fn ask(q: &[u8], out: &mut [u8]) -> usize {
     }
     if kind == 2 {
         return ask_inspect(q, out);
+    }
+    if kind == 4 {
+        return ask_wave(q, out);
     }
     ask_decode(q, out)
 }

@@ -3,7 +3,7 @@ ghost use mathlib.Core.Path.{_≡_};
 ghost use Prim.Native.Nat.{_+_, _≤_};
 ghost use lib.ListN.{length};
 ghost use Rattle.wav.specs.Wave.{lettersAt, formatAt, chunkStep, firstChunk, walk, oneOrTwo, pcm16, consistent, checkFormat, checkData, checkChunks, readWave, strictSize, checkStrict, readStrict, partOf};
-ghost use Rattle.wav.specs.Answers.{readOf, AsSamples};
+ghost use Rattle.wav.specs.Answers.{numberOf, readOf, AsSamples};
 ghost use Rattle.wav.specs.Steps.{stepOf, frameOf, partWithin};
 
 // Why a WAV call refuses. specs/Answers.antt gives each case its number and returned numbers.
@@ -30,6 +30,38 @@ pub enum WaveError {
     StrictFormat,
     StrictOrder,
     StrictEnd,
+}
+
+impl WaveError {
+    // The number in 01's table.
+    pub fn number(self) -> u8
+        ensures { λ r. ⌜ r ≡ numberOf self ⌝ }
+    {
+        match self {
+            WaveError::NotWave => 20,
+            WaveError::RiffEnd => 21,
+            WaveError::ChunkHeader => 22,
+            WaveError::ChunkEnd => 23,
+            WaveError::FormatChunk => 24,
+            WaveError::DataChunk => 25,
+            WaveError::NoFormat => 26,
+            WaveError::Encoding => 27,
+            WaveError::Channels => 28,
+            WaveError::ZeroRate => 29,
+            WaveError::ByteRate => 30,
+            WaveError::Inconsistent => 31,
+            WaveError::NoData => 32,
+            WaveError::PartialFrame => 33,
+            WaveError::WriterChannels => 34,
+            WaveError::DataSize => 35,
+            WaveError::RiffSize => 36,
+            WaveError::WriterByteRate => 37,
+            WaveError::OutputTooShort(_) => 13,
+            WaveError::StrictFormat => 40,
+            WaveError::StrictOrder => 41,
+            WaveError::StrictEnd => 42,
+        }
+    }
 }
 
 // A part of a file: the contents of a chunk.
