@@ -8,6 +8,7 @@ use format::Inspected;
 use format::Variant;
 use libc::STDOUT_FILENO;
 use wav::WaveError;
+use wav::WaveFilled;
 use wav::WaveRead;
 
 // What one turn found: the end of the list, an answer, one that differs, or a list that breaks off.
@@ -111,18 +112,12 @@ fn put_refused(out: &mut [u8], e: Error) -> usize {
     put_eight(out, d, values.second)
 }
 
-// The samples of a question's bytes, as many as fit.
+// Loads the samples of a question's bytes; none where they are too many.
 fn load(s: &[u8], out: &mut [i16]) -> usize {
-    let n = s.len() / 2;
-    if out.len() < n {
-        return 0;
+    match wav::load_samples(s, out) {
+        WaveFilled::Filled(n) => n,
+        WaveFilled::Refused(_) => 0,
     }
-    let mut i = 0;
-    while i < n {
-        out[i] = signed::sample_of(s[2 * i], s[2 * i + 1]);
-        i += 1;
-    }
-    n
 }
 
 // Kind 1: variant, gain, channels, rate, samples. A result: 1, and the stream.
