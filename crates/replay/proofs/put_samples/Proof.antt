@@ -1,7 +1,6 @@
 -- `replay::put_samples` meets its contract. Assumes nothing.
 use mathlib.Core.Path.{_≡_}
-use Prim.Native.Nat.{_+_, _-_, _≤_}
-use native.Mathlib.Omega.{arith}
+use Prim.Native.Nat.{_-_, _≤_}
 use borrow.Author.Needs.{needs}
 use lib.ListN.{length}
 use Rattle.replay.proofs.put_samples.Statement.{statement}
