@@ -58,7 +58,7 @@ count-from-requires c κs = search needs
 gather-requires : tie.Need-gather-requires Inv-loop μ-loop
 gather-requires c κs =
     let f = frame-of (c .before .before .loop .p) ((length (c .before .before .before .before .before .args .pcm .now) / c .before .before .before .before .before .args .channels + 62) / 63) (c .before .before .before .before .before .args .channels) (c .before .before .before .before .before .pre .0) (c .before .loop-test .taken) in
-    (omega (arith, c .count-from .ensures), mod-lt (c .before .before .loop .p) (c .before .before .before .before .before .pre .0), gather-room _ _ (length (c .before .before .before .before .before .args .pcm .now) / c .before .before .before .before .before .args .channels) _ _ f (c .count-from .ensures) refl)
+    (omega (arith, c .count-from .ensures), omega (arith, mod-lt (c .before .before .loop .p) (c .before .before .before .before .before .pre .0)), gather-room _ _ (length (c .before .before .before .before .before .args .pcm .now) / c .before .before .before .before .before .args .channels) _ _ f (c .count-from .ensures) refl)
 
 mul-at : tie.Need-mul-at Inv-loop μ-loop
 mul-at c = omega (arith, here (c .before .before))
