@@ -8,7 +8,7 @@ use mathlib.Core.List.{List, _++_, append-nil}
 use lib.ListN.{length, drop}
 use lib.Seq.{drop-length}
 use borrow.Author.Tests.{lt-ltb, le-ltb, lt-leb, le-leb, eq-eqb, ne-eqb, not-true, not-false}
-use Rattle.outcome.specs.Outcome.{Outcome, result, refused, refuseIf, need, branch, andThen, onResult, inOrder, outputAfter, Refuses}
+use Rattle.outcome.specs.Outcome.{Outcome, result, refused, refuseIf, need, branch, andThen, onResult, inOrder, outputAfter, Refuses, Refusing}
 use Rattle.outcome.proofs.Flags.{not-both, via}
 
 -- ---- one check, from an answer: the ruleset `checks` closes each return of a function that makes the checks of a chain
@@ -77,6 +77,39 @@ module _ {A B : Type 0} where
   pub on-result : (f : A → B) (o : Outcome A) {a : A} → o ≡ result a → onResult f o ≡ result (f a)
   unfolding onResult
   on-result f o e = rw e
+
+  pub on-refused : (f : A → B) (o : Outcome A) {n : ℕ} {vs : List ℕ} → refused n vs ≡ o → refused n vs ≡ onResult f o
+  unfolding onResult
+  on-refused f o e = rw (← e)
+
+-- ---- what a chain's refusals are
+
+module _ {A : Type 0} (P : ℕ → List ℕ → Type 0) where
+  pub refusing-if : (b : Bool) (n : ℕ) (vs : List ℕ) (rest : Outcome A) → P n vs → Refusing P rest → Refusing P (refuseIf b n vs rest)
+  unfolding Refusing refuseIf
+  refusing-if true n vs rest p r = p
+  refusing-if false n vs rest p r = r
+
+  pub refusing-need : (b : Bool) (n : ℕ) (vs : List ℕ) (rest : Outcome A) → P n vs → Refusing P rest → Refusing P (need b n vs rest)
+  unfolding Refusing need
+  refusing-need true n vs rest p r = r
+  refusing-need false n vs rest p r = p
+
+  pub refusing-branch : (b : Bool) (one other : Outcome A) → Refusing P one → Refusing P other → Refusing P (branch b one other)
+  unfolding branch
+  refusing-branch true one other p r = p
+  refusing-branch false one other p r = r
+
+  pub refusing-then : {B : Type 0} (o : Outcome B) (k : B → Outcome A) → Refusing P o → ((b : B) → o ≡ result b → Refusing P (k b)) → Refusing P (andThen o k)
+  unfolding Refusing andThen
+  refusing-then (result b) k p r = r b refl
+  refusing-then (refused n vs) k p r = p
+
+  pub ruleset refusals = (refusing-if, refusing-need, refusing-branch, refusing-then)
+
+  pub refusing-is : (o : Outcome A) {n : ℕ} {vs : List ℕ} → Refusing P o → refused n vs ≡ o → P n vs
+  unfolding Refusing
+  refusing-is o p e = rw (← e) at p
 
 -- ---- checks by number
 

@@ -53,3 +53,8 @@ outputAfter (refused n vs) out = out
 unfoldable pub Refuses : {A : Type 0} → Outcome A → Type 0
 Refuses (result a) = ⊥
 Refuses (refused n vs) = Unit {0}
+
+-- where the call refuses, the number and the returned numbers are such
+unfoldable pub Refusing : {A : Type 0} → (ℕ → List ℕ → Type 0) → Outcome A → Type 0
+Refusing P (result a) = Unit {0}
+Refusing P (refused n vs) = P n vs

@@ -1,14 +1,14 @@
 -- Decimal numbers by their digits, and texts that are put one behind the other. Assumes nothing.
 use mathlib.Core.Path.{_≡_, refl, sym, ap, _∙_}
-use mathlib.Core.List.{List, [], _∷_, _++_, append-assoc, append-nil}
-use Prim.Native.Nat.{ℕ, zero, suc, _+_, _-_, _*_, _/_, _%_, _^_, _≤_, _<_}
-use native.Mathlib.Nat.{add-zero, le-of-eq, add-assoc, pow-suc, one-le-pow, pow-le-pow-right, mod-lt, div-lt-iff-lt-mul, le-div-iff-mul-le, mul-le-mul-right}
-use native.Mathlib.Omega.{arith}
 use mathlib.Core.Bool.{Bool, true, false}
-use borrow.Author.Tests.{lt-ltb, ltb-true, ltb-false}
+use mathlib.Core.List.{List, [], _++_, append-assoc, append-nil}
+use Prim.Native.Nat.{ℕ, zero, suc, _+_, _-_, _/_, _%_, _^_, _≤_, _<_}
+use native.Mathlib.Nat.{add-zero, le-of-eq, add-assoc, pow-suc, one-le-pow, pow-le-pow-right, mod-lt, div-lt-iff-lt-mul, le-div-iff-mul-le}
+use native.Mathlib.Omega.{arith}
 use lib.Dec.{ltb}
 use lib.ListN.{length, take, drop, length-append, length-take, length-drop, drop-of-length-le, take-append-drop}
-use lib.Seq.{take-length, take-at, drop-at, drop-drop, drop-append-add, length-take-le}
+use lib.Seq.{take-length, take-at, drop-drop, drop-append-add, length-take-le}
+use borrow.Author.Tests.{lt-ltb, ltb-true, ltb-false}
 use Rattle.digits.proofs.Laws.{part-length, part-put}
 use Rattle.io.specs.Digits.{digits, Fewest}
 use Rattle.text.specs.Text.{letters, digitsOf, decimal, textOf, Extended, written, Put}

@@ -1,38 +1,30 @@
-use Prim.Native.Nat.{_+_, _≤_}
-use Rattle.text.proofs.Laws.{copied, front-copied}
-use borrow.Kind.Array.{good-length, eInt}
-use mir.Syntax.{w8}
-use lib.ListN.{length, take}
+-- `text::extended` meets its contract. Assumes nothing.
 use mathlib.Core.Path.{refl}
+use Prim.Native.Nat.{_+_, _≤_}
 use native.Mathlib.Omega.{arith}
+use lib.ListN.{length}
+use mir.Syntax.{w8}
+use borrow.Kind.Array.{good-length, eInt}
 use borrow.Author.Needs.{needs}
+use Rattle.text.proofs.Laws.{copied, front-copied}
 use Rattle.text.proofs.extended.Statement.{statement}
 use Rattle.text.proofs.extended.Tie as tie
-use Rattle.text.proofs.extended.Reads as reads
-use Rattle.text.proofs.extended.Lts as lts
-use Rattle.bytes.proofs.copy.Reads as copy-reads
 
--- src/lib.rt:20:15
 add-end : tie.Need-add-end
 add-end c = search needs
 
--- src/lib.rt:21:24
 sub-copy : tie.Need-sub-copy
 sub-copy c = search needs
 
--- src/lib.rt:21:24
 part-r-start : tie.Need-part-r-start
 part-r-start c = search needs
 
--- src/lib.rt:21:24
 part-r-end : tie.Need-part-r-end
 part-r-end c = search needs
 
--- src/lib.rt:21:5
 copy-requires : tie.Need-copy-requires
 copy-requires c κs = search needs
 
--- src/lib.rt:15:1
 returns : tie.Need-returns
 returns c = let s = c .before .before .before .before in
     let room = good-length (eInt w8) 128 (s .args .bytes) _ (s .good .0) in

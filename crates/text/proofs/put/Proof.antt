@@ -1,62 +1,53 @@
-use Rattle.text.proofs.Laws.{copied}
-use Rattle.digits.proofs.Laws.{part-length}
-use borrow.Kind.Array.{good-length, eInt}
-use mir.Syntax.{w8}
+-- `text::put` meets its contract. Assumes nothing.
+use mathlib.Core.Path.{_≡_, sym, refl}
+use Prim.Native.Nat.{_≤_}
+use native.Mathlib.Omega.{arith}
 use lib.Seq.{length-take-le}
 use lib.ListN.{length, take}
-use Prim.Native.Nat.{_≤_}
-use mathlib.Core.Path.{_≡_, sym, refl}
-use native.Mathlib.Omega.{arith}
+use mir.Syntax.{w8}
+use borrow.Kind.Array.{good-length, eInt}
 use borrow.Author.Needs.{needs}
+use Rattle.text.proofs.Laws.{copied}
+use Rattle.digits.proofs.Laws.{part-length}
 use Rattle.text.proofs.put.Statement.{statement}
 use Rattle.text.proofs.put.Tie as tie
-use Rattle.text.proofs.put.Reads as reads
-use Rattle.text.proofs.put.Lts as lts
-use Rattle.bytes.proofs.copy.Reads as copy-reads
 
 -- the line has n letters
 front-length : (c : tie.Start) → length (take (c .args .n) (c .args .t3)) ≡ c .args .n
 front-length c = let room : c .args .n ≤ length (c .args .t3) = omega (arith, good-length (eInt w8) 128 (c .args .t3) _ (c .good .1 .1 .0), c .pre .0) in length-take-le _ _ room
 
--- src/lib.rt:64:15
 add-end : tie.Need-add-end
 add-end c = search needs
 
--- src/lib.rt:65:17
 array-share-prefix-bytes : tie.Need-array-share-prefix-bytes
 array-share-prefix-bytes c = search needs
 
--- src/lib.rt:65:17
 slice-aggregate-copy : tie.Need-slice-aggregate-copy
 slice-aggregate-copy c = sym (front-length (c .before .before))
 
--- src/lib.rt:65:30
 sub-copy : tie.Need-sub-copy
 sub-copy c = search needs
 
--- src/lib.rt:65:30
 part-copy-start : tie.Need-part-copy-start
 part-copy-start c = search needs
 
--- src/lib.rt:65:30
 part-copy-end : tie.Need-part-copy-end
 part-copy-end c = search needs
 
--- src/lib.rt:65:5
 copy-requires : tie.Need-copy-requires
 copy-requires c κs = let s = c .before .before .before in rw (front-length s, part-length (s .args .at) (s .args .n) (s .args .out .now) (s .pre .1)) (omega arith)
 
--- src/lib.rt:60:1
 same-length : tie.Need-same-length
 same-length c = search needs
 
--- src/lib.rt:60:1
 returns : tie.Need-returns
-returns c = let s = c .before .before .before .before .before .before in
-    (record {
-      place = rw (front-length s) refl;
-      output = copied (s .args .at) (s .args .n) (s .args .out .now) _ (front-length s) (s .pre .1) (c .before .before .copy .ensures .1);
-    }, refl)
+returns c = let s = c .before .before .before .before .before .before in (
+  record {
+    place = rw (front-length s) refl;
+    output = copied (s .args .at) (s .args .n) (s .args .out .now) _ (front-length s) (s .pre .1) (c .before .before .copy .ensures .1);
+  },
+  refl,
+)
 
 pub put-spec : {M : Type 1} → statement M
 put-spec =

@@ -1,0 +1,71 @@
+-- `commands::report` meets its contract. Assumes nothing.
+use mathlib.Core.Path.{sym}
+use borrow.Author.Tests.{lt-ltb, le-ltb}
+use borrow.Author.Needs.{needs}
+use Rattle.commands.proofs.Printing.{prints-line, prints-text, counts}
+use Rattle.commands.specs.Commands.{reported}
+use Rattle.format.proofs.Sizes.{channels-few}
+use Rattle.format.proofs.Accepted.{accepted}
+use Rattle.format.specs.Answers.{inspectedOf}
+use Rattle.outcome.proofs.Laws.{met, clear, on-result, on-refused}
+use Rattle.commands.proofs.report.Statement.{statement}
+use Rattle.commands.proofs.report.Tie as tie
+
+none-requires : tie.Need-none-requires
+none-requires c κs = search needs
+
+put-refusal-requires : tie.Need-put-refusal-requires
+put-refusal-requires c κs = search needs
+
+returns : tie.Need-returns
+unfolding reported
+returns c = (counts (c .put-refusal .ensures) (c .put-refusal .kept .0), prints-line _ (met _ _ _ _ (lt-ltb _ _ (c .before .before .before .if1 .taken))) (rw (c .before .none .ensures .0) at (c .put-refusal .ensures)))
+
+inspect-requires : tie.Need-inspect-requires
+inspect-requires c κs = search needs
+
+enum-known-h : tie.Need-enum-known-h
+enum-known-h c = search needs
+
+put-report-requires : tie.Need-put-report-requires
+unfolding inspectedOf
+put-report-requires c κs = let a = accepted _ _ (sym (rw (c .before .before .h .given .1) at (c .before .before .before .before .inspect .ensures))) in (channels-few _ _ (a .channels) .0, a .size, c .before .before .before .before .before .if1 .left, search needs)
+
+enum-known-e : tie.Need-enum-known-e
+enum-known-e c = search needs
+
+number-requires : tie.Need-number-requires
+number-requires c κs = search needs
+
+values-requires : tie.Need-values-requires
+values-requires c κs = search needs
+
+put-refusal-requires-2 : tie.Need-put-refusal-requires-2
+put-refusal-requires-2 c κs = search needs
+
+returns-2 : tie.Need-returns-2
+unfolding reported inspectedOf
+returns-2 c = let q = rw (c .before .before .before .h .given .1) at (c .before .before .before .before .before .inspect .ensures) in
+    (counts (c .put-report .ensures) (c .put-report .kept .0), prints-text _ (clear _ _ _ _ _ (le-ltb _ _ (c .before .before .before .before .before .before .if1 .left)) (sym (on-result _ _ (sym q)))) (c .put-report .ensures))
+
+returns-3 : tie.Need-returns-3
+unfolding reported inspectedOf
+returns-3 c = let q = rw (c .before .before .before .before .before .e .given .1) at (c .before .before .before .before .before .before .before .inspect .ensures) in
+    (counts (c .put-refusal2 .ensures) (c .put-refusal2 .kept .0), prints-line _ (clear _ _ _ _ _ (le-ltb _ _ (c .before .before .before .before .before .before .before .before .if1 .left)) (on-refused _ _ q)) (rw (c .before .before .number .ensures, c .before .values .ensures) at (c .put-refusal2 .ensures)))
+
+pub report-spec : {M : Type 1} → statement M
+report-spec =
+    tie.close
+    (tie.spec
+    none-requires
+    put-refusal-requires
+    returns
+    inspect-requires
+    enum-known-h
+    put-report-requires
+    enum-known-e
+    number-requires
+    values-requires
+    put-refusal-requires-2
+    returns-2
+    returns-3)

@@ -1,0 +1,200 @@
+// What the two programs print: the converter's stream, the inspector's report, and the line of a refusal.
+use format::Encoded;
+use format::Header;
+use format::Inspected;
+use format::Settings;
+use format::Values;
+use format::Variant;
+use text::Line;
+use wav::Wave;
+use wav::WaveFilled;
+use wav::WaveRead;
+ghost use mathlib.Core.Path.{_≡_};
+ghost use mathlib.Core.List.{[], _∷_, _++_};
+ghost use Prim.Native.Nat.{_+_, _*_, _/_, _<_, _≤_};
+ghost use lib.ListN.{length, take, drop};
+ghost use Rattle.lists.specs.Lists.{joined};
+ghost use Rattle.format.specs.Layout.{frames, streamLength};
+ghost use Rattle.io.specs.Counts.{Counts};
+ghost use Rattle.text.specs.Text.{textOf, Extended, Put};
+ghost use Rattle.wav.specs.Samples.{samplesOf};
+ghost use Rattle.commands.specs.Commands.{refusalLine, printed, encodeWhole, encodeWave, converted, variantName, headerLine, indexField, fragmentLine, report, reported};
+
+// The most bytes that a program reads.
+pub const MOST: usize = 65536;
+
+// Room for the longest answer: a header's line and the lines of 2,620 fragments, of at most 128 bytes each. The streams are shorter.
+pub const ROOM: usize = 335488;
+
+// The line of a refusal.
+fn refusal_line(number: u8, values: Values) -> Line
+    ensures { λ r. ⌜ (textOf r ≡ refusalLine number (take (values .count) (values .first ∷ values .second ∷ []))) × (r .count ≤ 128) ⌝ }
+{
+    let none = Line::empty().field(b"refused ", number as u64);
+    if values.count == 0 {
+        return none.word(b"\n");
+    }
+    let one = none.field(b" ", values.first as u64);
+    if values.count == 1 {
+        return one.word(b"\n");
+    }
+    one.field(b" ", values.second as u64).word(b"\n")
+}
+
+// Internal: a line with the variant's name more.
+fn name(line: Line, variant: Variant) -> Line
+    requires { ⌜ line .count + 2 ≤ 128 ⌝ }
+    ensures { λ r. ⌜ Extended line (variantName variant) r × (r .count ≤ line .count + 2) ⌝ }
+{
+    match variant {
+        Variant::H => line.word(b"H"),
+        Variant::L => line.word(b"L"),
+        Variant::LPlus => line.word(b"L+"),
+    }
+}
+
+// The header's line.
+fn header_line(h: Header) -> Line
+    ensures { λ r. ⌜ (textOf r ≡ headerLine h) × (r .count ≤ 128) ⌝ }
+{
+    let variant = h.variant;
+    let version = Line::empty().field(b"version ", h.version as u64);
+    let named = name(version.word(b" variant "), variant);
+    let channels = named.field(b" channels ", h.channels as u64);
+    let rate = channels.field(b" rate ", h.rate as u64);
+    rate.field(b" samples ", h.samples as u64).word(b"\n")
+}
+
+// Internal: a line with the index field of a fragment more.
+fn index_field(line: Line, version: u8, fragment: &[u8]) -> Line
+    requires { ⌜ (line .count + 20 ≤ 128) × (2 ≤ length (now fragment)) ⌝ }
+    ensures { λ r. ⌜ Extended line (indexField version (now (fragment .entry))) r × (r .count ≤ line .count + 20) ⌝ }
+{
+    if 3 <= version {
+        return line.number(fragment[1] as u64);
+    }
+    line.word(b"-")
+}
+
+// Internal: the line of the fragment at place `p` of the file order.
+fn fragment_line(file: &[u8], h: Header, p: usize) -> Line
+    requires { ⌜ (0 < h .channels) × (length (now file) ≡ streamLength h) × (p < frames h * h .channels) ⌝ }
+    ensures { λ r. ⌜ (textOf r ≡ fragmentLine h (now (file .entry)) p) × (r .count ≤ 128) ⌝ }
+{
+    let channels = h.channels as usize;
+    let f = p / channels;
+    let fragment = inspect::fragment_at(file, h, p);
+    let place = Line::empty()
+        .number(f as u64)
+        .field(b" ", (p % channels) as u64);
+    let count = place.field(b" ", inspect::count_at(h, f) as u64);
+    let volume = count.field(b" ", fragment[0] as u64);
+    index_field(volume.word(b" "), h.version, fragment).word(b"\n")
+}
+
+// Internal: the lines of all fragments, in file order, from place `at` of the output on. The answer is the place after them.
+fn put_fragments(out: &mut [u8], at: usize, file: &[u8], h: Header) -> usize
+    requires { ⌜ (0 < h .channels) × (length (now file) ≡ streamLength h) × (at + frames h * h .channels * 128 ≤ length (now out)) ⌝ }
+    ensures { λ r. ⌜ Put (now (out .entry)) at (joined (fragmentLine h (now (file .entry))) (frames h * h .channels)) (now (out .exit)) r ⌝ }
+{
+    let fragments = inspect::fragment_count(h);
+    let mut next = at;
+    let mut p = 0;
+    while p < fragments {
+        next = text::put_line(out, next, fragment_line(file, h, p));
+        p += 1;
+    }
+    next
+}
+
+// Internal: the report on an accepted stream.
+fn put_report(out: &mut [u8], file: &[u8], h: Header) -> usize
+    requires { ⌜ (0 < h .channels) × (length (now file) ≡ streamLength h) × (length (now file) ≤ 65536) × (335488 ≤ length (now out)) ⌝ }
+    ensures { λ r. ⌜ Put (now (out .entry)) 0 (report (now (file .entry)) h) (now (out .exit)) r ⌝ }
+{
+    let at = text::put_line(out, 0, header_line(h));
+    put_fragments(out, at, file, h)
+}
+
+// Internal: the line of a refusal, at the front of the output.
+fn put_refusal(out: &mut [u8], number: u8, values: Values) -> usize
+    requires { ⌜ 128 ≤ length (now out) ⌝ }
+    ensures { λ r. ⌜ Put (now (out .entry)) 0 (refusalLine number (take (values .count) (values .first ∷ values .second ∷ []))) (now (out .exit)) r ⌝ }
+{
+    text::put_line(out, 0, refusal_line(number, values))
+}
+
+// The inspector: a stream's report, or a refusal's line, at the front of the output. The answer is how many bytes there are.
+pub fn report(input: &[u8], out: &mut [u8; 335488]) -> usize
+    ensures { λ r. ⌜ Counts r (now (out .exit)) ⌝ }
+    ensures { λ r. ⌜ Put (now (out .entry)) 0 (printed (reported (now (input .entry)))) (now (out .exit)) r ⌝ }
+{
+    if MOST < input.len() {
+        return put_refusal(out, 38, Values::none());
+    }
+    match inspect::inspect(input) {
+        Inspected::Accepted(h) => put_report(out, input, h),
+        Inspected::Refused(e) => put_refusal(out, e.number(), e.values()),
+    }
+}
+
+// Internal: the samples of sample bytes, at the front of an output that has room for them. The answer is how many there are.
+fn load(bytes: &[u8], out: &mut [i16]) -> usize
+    requires { ⌜ length (now bytes) / 2 ≤ length (now out) ⌝ }
+    ensures { λ r. ⌜ (r ≡ length (now (bytes .entry)) / 2) × (take r (now (out .exit)) ≡ samplesOf (now (bytes .entry))) ⌝ }
+{
+    match wav::load_samples(bytes, out) {
+        WaveFilled::Filled(n) => n,
+        WaveFilled::Refused(_) => 0,
+    }
+}
+
+// Internal: the encoding of sample bytes, or the line of a refusal.
+fn put_encoded(out: &mut [u8], settings: Settings, bytes: &[u8], channels: u8, rate: u32) -> usize
+    requires { ⌜ (length (now bytes) ≤ 65536) × (335488 ≤ length (now out)) ⌝ }
+    ensures { λ r. ⌜ Put (now (out .entry)) 0 (printed (encodeWhole settings (samplesOf (now (bytes .entry))) channels rate)) (now (out .exit)) r ⌝ }
+{
+    let mut pcm = [0i16; 32768];
+    let n = load(bytes, &mut pcm);
+    match sqv4::encode(settings, &pcm[..n], channels, rate, out) {
+        Encoded::Written(e) => e.length,
+        Encoded::Refused(e) => put_refusal(out, e.number(), e.values()),
+    }
+}
+
+// Internal: plain WAV reading, then the encoder.
+fn put_wave(out: &mut [u8], settings: Settings, file: &[u8]) -> usize
+    requires { ⌜ (length (now file) ≤ 65536) × (335488 ≤ length (now out)) ⌝ }
+    ensures { λ r. ⌜ Put (now (out .entry)) 0 (printed (encodeWave settings (now (file .entry)))) (now (out .exit)) r ⌝ }
+{
+    match wav::read_pcm16_wave(file) {
+        WaveRead::Accepted(w) => {
+            let bytes = wav::wave_samples(file);
+            put_encoded(out, settings, bytes, w.channels as u8, w.rate)
+        }
+        WaveRead::Refused(e) => put_refusal(out, e.number(), Values::none()),
+    }
+}
+
+// The converter: the stream of a WAV at a variant and a gain, or a refusal's line, at the front of the output. The answer is how many
+// bytes there are.
+pub fn convert(input: &[u8], out: &mut [u8; 335488]) -> usize
+    ensures { λ r. ⌜ Counts r (now (out .exit)) ⌝ }
+    ensures { λ r. ⌜ Put (now (out .entry)) 0 (printed (converted (now (input .entry)))) (now (out .exit)) r ⌝ }
+{
+    if input.len() < 2 {
+        return put_refusal(out, 38, Values::none());
+    }
+    if MOST < input.len() {
+        return put_refusal(out, 38, Values::none());
+    }
+    let variant = input[0];
+    if 2 < variant {
+        return put_refusal(out, 8, Values::one(variant as usize));
+    }
+    let settings = Settings {
+        variant: Variant::from_byte(variant),
+        gain: input[1],
+    };
+    put_wave(out, settings, &input[2..])
+}
