@@ -5,7 +5,7 @@ use crate::input::{Input, bad_line, sample_bytes, without_last_zeros};
 
 /// The bytes that a question and an answer may have in crates/replay.
 const MOST_QUESTION: usize = 65538;
-const MOST_ANSWER: usize = 327680;
+const MOST_ANSWER: usize = 335488;
 
 pub fn file(inputs: &[(usize, Input)]) -> Result<Vec<u8>, String> {
     let records: Result<Vec<_>, _> =
@@ -21,7 +21,7 @@ fn record(input: &Input) -> Result<Vec<u8>, &'static str> {
         Err(refusal) => refused(&refusal),
     };
     if question.len() > MOST_QUESTION || answer.len() > MOST_ANSWER {
-        return Err("too long: a record's question has at most 65,538 bytes, its answer 327,680");
+        return Err("too long: a record's question has at most 65,538 bytes, its answer 335,488");
     }
     let (asked, said) = (without_last_zeros(&question), without_last_zeros(&answer));
     let sizes = [question.len(), asked.len(), answer.len(), said.len()].map(|size| (size as u32).to_le_bytes());

@@ -1,6 +1,7 @@
-// Replays answers that were recorded from the Rust. data/answers holds questions to the encoder, to inspection, to the decoder and to
-// the reader of WAV files, each with the Rust's answer as bytes; oracle/README.md has the layout. Each question is asked of the proved
-// functions, and the answer's bytes are compared. The program prints how many answers there were and how many differ.
+// Replays answers that were recorded from the Rust. Each file of data/ holds questions of one kind: to the encoder, to inspection, to
+// the decoder, to the reader of WAV files, to the converter and to the inspector, each with the Rust's answer as bytes; oracle/README.md
+// has the layout. Each question is asked of the proved functions, and the answer's bytes are compared. The program prints for each file
+// how many answers there were and how many differ.
 use format::Decoded;
 use format::Encoded;
 use format::Error;
@@ -35,14 +36,6 @@ fn tail(q: &[u8], k: usize) -> &[u8] {
 
 fn byte_at(q: &[u8], k: usize) -> u8 {
     if k < q.len() { q[k] } else { 0 }
-}
-
-fn two_at(q: &[u8], k: usize) -> usize {
-    let part = tail(q, k);
-    if part.len() < 2 {
-        return 0;
-    }
-    digits::le16(part, 0) as usize
 }
 
 fn word_at(q: &[u8], k: usize) -> u32 {
@@ -193,7 +186,7 @@ fn ask_wave(q: &[u8], out: &mut [u8]) -> usize {
     }
 }
 
-fn ask(q: &[u8], out: &mut [u8]) -> usize {
+fn ask(q: &[u8], out: &mut [u8; 335488]) -> usize {
     let kind = byte_at(q, 0);
     if kind == 1 {
         return ask_encode(q, out);
@@ -201,17 +194,28 @@ fn ask(q: &[u8], out: &mut [u8]) -> usize {
     if kind == 2 {
         return ask_inspect(q, out);
     }
+    if kind == 3 {
+        return ask_decode(q, out);
+    }
     if kind == 4 {
         return ask_wave(q, out);
     }
-    ask_decode(q, out)
+    if kind == 5 {
+        return commands::convert(tail(q, 1), out);
+    }
+    commands::report(tail(q, 1), out)
 }
 
-// Whether the answer to the first `asked` bytes of a record is the rest of it.
-fn is_answered(record: &[u8], asked: usize) -> bool {
-    let mut mine = [0u8; 2048];
-    let n = ask(front(record, asked), &mut mine);
-    check::same(front(&mine, n), tail(record, asked))
+// Whether the first n bytes of `mine` are the answer.
+fn is_same(mine: &[u8; 335488], n: usize, answer: &[u8]) -> bool {
+    check::same(front(mine, n), answer)
+}
+
+// Whether the answer to a question is the one that was recorded.
+fn is_answered(question: &[u8], answer: &[u8]) -> bool {
+    let mut mine = [0u8; 335488];
+    let n = ask(question, &mut mine);
+    is_same(&mine, n, answer)
 }
 
 // Whether the next n bytes of the list could be read to the front of a buffer.
@@ -222,36 +226,35 @@ fn read_exact(fd: i32, buffer: &mut [u8], n: usize) -> bool {
     io::read_full(fd, &mut buffer[..n]) == n
 }
 
-// Reads a record of so many bytes and tries it.
-fn try_record(fd: i32, asked: usize, told: usize) -> Turn {
-    if 2048 < asked {
+// Reads what is stored of a question and of its answer, and tries it. The rest of both is zeros.
+fn try_record(fd: i32, sizes: [u8; 16]) -> Turn {
+    let mut question = [0u8; 65538];
+    if !read_exact(fd, &mut question, word_at(&sizes, 4) as usize) {
         return Turn::Broken;
     }
-    if 2048 < told {
+    let mut answer = [0u8; 335488];
+    if !read_exact(fd, &mut answer, word_at(&sizes, 12) as usize) {
         return Turn::Broken;
     }
-    let end = asked + told;
-    let mut record = [0u8; 4096];
-    if !read_exact(fd, &mut record, end) {
-        return Turn::Broken;
-    }
-    if is_answered(front(&record, end), asked) {
+    let asked = front(&question, word_at(&sizes, 0) as usize);
+    let told = front(&answer, word_at(&sizes, 8) as usize);
+    if is_answered(asked, told) {
         return Turn::Same;
     }
     Turn::Differs
 }
 
-// One question with its answer: the sizes of both, two bytes each, then both.
+// One question with its answer: the sizes of both and of what is stored of them, four bytes each, then both.
 fn replay_one(fd: i32) -> Turn {
-    let mut sizes = [0u8; 4];
+    let mut sizes = [0u8; 16];
     let got = io::read_full(fd, &mut sizes);
     if got == 0 {
         return Turn::End;
     }
-    if got != 4 {
+    if got != 16 {
         return Turn::Broken;
     }
-    try_record(fd, two_at(&sizes, 0), two_at(&sizes, 2))
+    try_record(fd, sizes)
 }
 
 // What the whole list gave.
@@ -299,14 +302,17 @@ fn replay_all(fd: i32) -> Tally {
     }
 }
 
-fn main() {
-    let fd = os::open_read(b"answers");
+// Replays a file, and prints what it gave.
+fn replay_file(name: &[u8]) {
+    let fd = os::open_read(name);
     if fd < 0 {
-        os::fail(b"answers");
+        os::fail(name);
         return;
     }
     let tally = replay_all(fd);
     libc::close(fd);
+    io::write_all(STDOUT_FILENO, name);
+    io::write_all(STDOUT_FILENO, b": ");
     io::print_decimal(STDOUT_FILENO, tally.answers as u64);
     io::write_all(STDOUT_FILENO, b" answers, ");
     io::print_decimal(STDOUT_FILENO, tally.differ as u64);
@@ -314,4 +320,13 @@ fn main() {
     if !tally.whole {
         io::write_all(STDOUT_FILENO, b"the list breaks off\n");
     }
+}
+
+fn main() {
+    replay_file(b"encode");
+    replay_file(b"inspect");
+    replay_file(b"decode");
+    replay_file(b"wav");
+    replay_file(b"converter");
+    replay_file(b"inspector");
 }

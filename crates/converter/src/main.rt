@@ -1,0 +1,13 @@
+// The converter: reads a variant byte, a gain byte and a WAV file from standard input and writes the SQV4 stream to standard output, or
+// the line of a refusal. commands::convert says what is written.
+use libc::STDIN_FILENO;
+use libc::STDOUT_FILENO;
+
+fn main() {
+    // One byte more than the converter takes, so that a longer input is seen.
+    let mut input = [0u8; 65537];
+    let n = io::read_full(STDIN_FILENO, &mut input);
+    let mut out = [0u8; 335488];
+    let count = commands::convert(&input[..n], &mut out);
+    io::write_all(STDOUT_FILENO, &out[..count]);
+}
