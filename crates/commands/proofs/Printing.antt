@@ -31,7 +31,8 @@ use Rattle.wav.proofs.Plain.{PlainRefusal, plain-refusals}
 use Rattle.io.specs.Counts.{Counts}
 use Rattle.text.specs.Text.{written, Put}
 use Rattle.text.proofs.Laws.{put-none, then-put, put-ends}
-use Rattle.commands.specs.Commands.{refusalLine, printed, encodeWhole, encodeWave, fragmentLine}
+use Rattle.commands.specs.Commands.{printed, encodeWhole, encodeWave}
+use Rattle.lines.specs.Lines.{refusalLine, fragmentLine}
 use Rattle.wav.specs.declared.WaveFilled.the-variants as F
 
 -- ---- what is printed of an outcome

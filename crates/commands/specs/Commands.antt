@@ -1,29 +1,21 @@
 -- What the two programs print for what they read. Assumes nothing.
-use Prim.Native.Nat.{ℕ, _*_, _/_, _%_}
-use mathlib.Core.Bool.{cond}
-use mathlib.Core.List.{List, [], _∷_, _++_, map}
+use Prim.Native.Nat.{ℕ, _+_, _*_, _/_, _%_}
+use mathlib.Core.List.{List, [], _∷_, _++_}
 use lib.Dec.{ltb}
 use lib.IntN.{ℤ}
 use lib.ListN.{length, getD, drop}
 use Rattle.outcome.specs.Outcome.{Outcome, result, refused, refuseIf, _⟫_, andThen, onResult}
 use Rattle.lists.specs.Lists.{joined}
-use Rattle.format.specs.Layout.{anew, volumeByte, indexByte, variantOf, frames, count, streamLength, fragmentAtPlace}
+use Rattle.format.specs.Layout.{variantOf, frames, streamLength}
 use Rattle.format.specs.Encode.{headerWritten, encodeCall}
 use Rattle.format.specs.Inspect.{inspected}
-use Rattle.format.specs.declared.Variant.{Variant}
-use Rattle.format.specs.declared.Variant.the-variants.{H, L, LPlus}
 use Rattle.format.specs.declared.Header.{Header}
 use Rattle.format.specs.declared.Settings.{Settings}
 use Rattle.wav.specs.Wave.{readWave, partOf}
 use Rattle.wav.specs.Samples.{samplesOf}
-use Rattle.wav.specs.declared.Wave.{Wave}
-use Rattle.text.specs.Text.{letters, decimal, line}
+use Rattle.lines.specs.Lines.{refusalLine, headerLine, fragmentLine}
 
 -- ---- what either prints
-
--- a refusal's line: `refused`, the number, and any returned numbers
-unfoldable pub refusalLine : ℕ → List ℕ → List ℕ
-refusalLine number values = line (letters "refused" ∷ decimal number ∷ map decimal values)
 
 -- the result; on a refusal only its line
 unfoldable pub printed : Outcome (List ℕ) → List ℕ
@@ -51,28 +43,6 @@ converted input =
     ⟫ encodeWave (record { variant = variantOf variant; gain = gain }) (drop 2 input)
 
 -- ---- the inspector: a stream
-
-unfoldable pub variantName : Variant → List ℕ
-variantName H = letters "H"
-variantName L = letters "L"
-variantName LPlus = letters "L+"
-
-unfoldable pub headerLine : Header → List ℕ
-headerLine h =
-    line
-    (letters "version" ∷ decimal (h .version) ∷ letters "variant" ∷ variantName (h .variant) ∷ letters "channels" ∷ decimal (h .channels)
-    ∷ letters "rate" ∷ decimal (h .rate) ∷ letters "samples" ∷ decimal (h .samples) ∷ [])
-
--- - in versions 1, 2
-unfoldable pub indexField : ℕ → List ℕ → List ℕ
-indexField version fragment = cond (anew version) (decimal (indexByte fragment)) (letters "-")
-
--- the fragment at place p of the file order: frame, channel, sample count, volume, index
-unfoldable pub fragmentLine : Header → List ℕ → ℕ → List ℕ
-fragmentLine h d p =
-    let f = p / h .channels in
-    let fragment = fragmentAtPlace h d p in
-    line (decimal f ∷ decimal (p % h .channels) ∷ decimal (count h f) ∷ decimal (volumeByte fragment) ∷ indexField (h .version) fragment ∷ [])
 
 -- the header's line, then a line for each fragment
 unfoldable pub report : List ℕ → Header → List ℕ

@@ -5,8 +5,6 @@ use format::Inspected;
 use format::Settings;
 use format::Values;
 use format::Variant;
-use text::Line;
-use wav::Wave;
 use wav::WaveFilled;
 use wav::WaveRead;
 ghost use mathlib.Core.Path.{_≡_};
@@ -16,81 +14,16 @@ ghost use lib.ListN.{length, take, drop};
 ghost use Rattle.lists.specs.Lists.{joined};
 ghost use Rattle.format.specs.Layout.{frames, streamLength};
 ghost use Rattle.io.specs.Counts.{Counts};
-ghost use Rattle.text.specs.Text.{textOf, Extended, Put};
+ghost use Rattle.text.specs.Text.{Put};
+ghost use Rattle.lines.specs.Lines.{refusalLine, fragmentLine};
 ghost use Rattle.wav.specs.Samples.{samplesOf};
-ghost use Rattle.commands.specs.Commands.{refusalLine, printed, encodeWhole, encodeWave, converted, variantName, headerLine, indexField, fragmentLine, report, reported};
+ghost use Rattle.commands.specs.Commands.{printed, encodeWhole, encodeWave, converted, report, reported};
 
 // The most bytes that a program reads.
 pub const MOST: usize = 65536;
 
 // Room for the longest answer: a header's line and the lines of 2,620 fragments, of at most 128 bytes each. The streams are shorter.
 pub const ROOM: usize = 335488;
-
-// The line of a refusal.
-fn refusal_line(number: u8, values: Values) -> Line
-    ensures { λ r. ⌜ (textOf r ≡ refusalLine number (take (values .count) (values .first ∷ values .second ∷ []))) × (r .count ≤ 128) ⌝ }
-{
-    let none = Line::empty().field(b"refused ", number as u64);
-    if values.count == 0 {
-        return none.word(b"\n");
-    }
-    let one = none.field(b" ", values.first as u64);
-    if values.count == 1 {
-        return one.word(b"\n");
-    }
-    one.field(b" ", values.second as u64).word(b"\n")
-}
-
-// Internal: a line with the variant's name more.
-fn name(line: Line, variant: Variant) -> Line
-    requires { ⌜ line .count + 2 ≤ 128 ⌝ }
-    ensures { λ r. ⌜ Extended line (variantName variant) r × (r .count ≤ line .count + 2) ⌝ }
-{
-    match variant {
-        Variant::H => line.word(b"H"),
-        Variant::L => line.word(b"L"),
-        Variant::LPlus => line.word(b"L+"),
-    }
-}
-
-// The header's line.
-fn header_line(h: Header) -> Line
-    ensures { λ r. ⌜ (textOf r ≡ headerLine h) × (r .count ≤ 128) ⌝ }
-{
-    let variant = h.variant;
-    let version = Line::empty().field(b"version ", h.version as u64);
-    let named = name(version.word(b" variant "), variant);
-    let channels = named.field(b" channels ", h.channels as u64);
-    let rate = channels.field(b" rate ", h.rate as u64);
-    rate.field(b" samples ", h.samples as u64).word(b"\n")
-}
-
-// Internal: a line with the index field of a fragment more.
-fn index_field(line: Line, version: u8, fragment: &[u8]) -> Line
-    requires { ⌜ (line .count + 20 ≤ 128) × (2 ≤ length (now fragment)) ⌝ }
-    ensures { λ r. ⌜ Extended line (indexField version (now (fragment .entry))) r × (r .count ≤ line .count + 20) ⌝ }
-{
-    if 3 <= version {
-        return line.number(fragment[1] as u64);
-    }
-    line.word(b"-")
-}
-
-// Internal: the line of the fragment at place `p` of the file order.
-fn fragment_line(file: &[u8], h: Header, p: usize) -> Line
-    requires { ⌜ (0 < h .channels) × (length (now file) ≡ streamLength h) × (p < frames h * h .channels) ⌝ }
-    ensures { λ r. ⌜ (textOf r ≡ fragmentLine h (now (file .entry)) p) × (r .count ≤ 128) ⌝ }
-{
-    let channels = h.channels as usize;
-    let f = p / channels;
-    let fragment = inspect::fragment_at(file, h, p);
-    let place = Line::empty()
-        .number(f as u64)
-        .field(b" ", (p % channels) as u64);
-    let count = place.field(b" ", inspect::count_at(h, f) as u64);
-    let volume = count.field(b" ", fragment[0] as u64);
-    index_field(volume.word(b" "), h.version, fragment).word(b"\n")
-}
 
 // Internal: the lines of all fragments, in file order, from place `at` of the output on. The answer is the place after them.
 fn put_fragments(out: &mut [u8], at: usize, file: &[u8], h: Header) -> usize
@@ -101,7 +34,7 @@ fn put_fragments(out: &mut [u8], at: usize, file: &[u8], h: Header) -> usize
     let mut next = at;
     let mut p = 0;
     while p < fragments {
-        next = text::put_line(out, next, fragment_line(file, h, p));
+        next = text::put_line(out, next, lines::fragment_line(file, h, p));
         p += 1;
     }
     next
@@ -112,7 +45,7 @@ fn put_report(out: &mut [u8], file: &[u8], h: Header) -> usize
     requires { ⌜ (0 < h .channels) × (length (now file) ≡ streamLength h) × (length (now file) ≤ 65536) × (335488 ≤ length (now out)) ⌝ }
     ensures { λ r. ⌜ Put (now (out .entry)) 0 (report (now (file .entry)) h) (now (out .exit)) r ⌝ }
 {
-    let at = text::put_line(out, 0, header_line(h));
+    let at = text::put_line(out, 0, lines::header_line(h));
     put_fragments(out, at, file, h)
 }
 
@@ -121,7 +54,7 @@ fn put_refusal(out: &mut [u8], number: u8, values: Values) -> usize
     requires { ⌜ 128 ≤ length (now out) ⌝ }
     ensures { λ r. ⌜ Put (now (out .entry)) 0 (refusalLine number (take (values .count) (values .first ∷ values .second ∷ []))) (now (out .exit)) r ⌝ }
 {
-    text::put_line(out, 0, refusal_line(number, values))
+    text::put_line(out, 0, lines::refusal_line(number, values))
 }
 
 // The inspector: a stream's report, or a refusal's line, at the front of the output. The answer is how many bytes there are.

@@ -5,7 +5,7 @@ use native.Mathlib.Omega.{arith}
 use borrow.Author.Needs.{needs}
 use Rattle.commands.proofs.Printing.{no-lines, one-line-more}
 use Rattle.text.proofs.Laws.{length-put}
-use Rattle.commands.specs.Commands.{fragmentLine}
+use Rattle.lines.specs.Lines.{fragmentLine}
 use Rattle.text.specs.Text.{Put}
 use Rattle.lists.specs.Lists.{joined}
 use Rattle.commands.proofs.put_fragments.Statement.{statement}

@@ -1,10 +1,10 @@
--- `commands::refusal_line` meets its contract. Assumes nothing.
+-- `lines::refusal_line` meets its contract. Assumes nothing.
 use native.Mathlib.Omega.{arith}
 use borrow.Author.Needs.{needs}
-use Rattle.commands.proofs.Lines.{none-returned, one-returned, two-returned}
+use Rattle.lines.proofs.Lines.{none-returned, one-returned, two-returned}
 use Rattle.text.specs.Text.{letters}
-use Rattle.commands.proofs.refusal_line.Statement.{statement}
-use Rattle.commands.proofs.refusal_line.Tie as tie
+use Rattle.lines.proofs.refusal_line.Statement.{statement}
+use Rattle.lines.proofs.refusal_line.Tie as tie
 
 empty-requires : tie.Need-empty-requires
 empty-requires c κs = search needs

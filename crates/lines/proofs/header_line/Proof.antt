@@ -1,10 +1,10 @@
--- `commands::header_line` meets its contract. Assumes nothing.
+-- `lines::header_line` meets its contract. Assumes nothing.
 use native.Mathlib.Omega.{arith}
 use borrow.Author.Needs.{needs}
-use Rattle.commands.proofs.Lines.{header-pieces}
+use Rattle.lines.proofs.Lines.{header-pieces}
 use Rattle.text.specs.Text.{letters}
-use Rattle.commands.proofs.header_line.Statement.{statement}
-use Rattle.commands.proofs.header_line.Tie as tie
+use Rattle.lines.proofs.header_line.Statement.{statement}
+use Rattle.lines.proofs.header_line.Tie as tie
 
 empty-requires : tie.Need-empty-requires
 empty-requires c κs = search needs

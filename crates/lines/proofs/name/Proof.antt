@@ -1,10 +1,10 @@
--- `commands::name` meets its contract. Assumes nothing.
+-- `lines::name` meets its contract. Assumes nothing.
 use native.Mathlib.Omega.{arith}
 use borrow.Author.Needs.{needs}
-use Rattle.commands.specs.Commands.{variantName}
+use Rattle.lines.specs.Lines.{variantName}
 use Rattle.text.specs.Text.{letters}
-use Rattle.commands.proofs.name.Statement.{statement}
-use Rattle.commands.proofs.name.Tie as tie
+use Rattle.lines.proofs.name.Statement.{statement}
+use Rattle.lines.proofs.name.Tie as tie
 
 enum-told : tie.Need-enum-told
 enum-told c = search needs

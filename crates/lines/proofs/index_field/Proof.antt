@@ -1,11 +1,10 @@
--- `commands::index_field` meets its contract. Assumes nothing.
+-- `lines::index_field` meets its contract. Assumes nothing.
 use native.Mathlib.Omega.{arith}
-use borrow.Author.Tests.{le-leb, lt-leb}
 use borrow.Author.Needs.{needs}
-use Rattle.commands.specs.Commands.{indexField}
+use Rattle.lines.proofs.Lines.{index-shown, index-hidden}
 use Rattle.text.specs.Text.{letters}
-use Rattle.commands.proofs.index_field.Statement.{statement}
-use Rattle.commands.proofs.index_field.Tie as tie
+use Rattle.lines.proofs.index_field.Statement.{statement}
+use Rattle.lines.proofs.index_field.Tie as tie
 
 shared-slice-read-number : tie.Need-shared-slice-read-number
 shared-slice-read-number c = search needs
@@ -17,8 +16,7 @@ number-requires : tie.Need-number-requires
 number-requires c κs = search needs
 
 returns : tie.Need-returns
-unfolding indexField
-returns c = (rw (le-leb _ _ (c .before .before .if1 .taken)) (c .number .ensures .0), c .number .ensures .1)
+returns c = let a = c .before .before .before .before .args in (rw (index-shown (a .version) (a .fragment .now) (c .before .before .if1 .taken)) (c .number .ensures .0), c .number .ensures .1)
 
 slice-aggregate-word : tie.Need-slice-aggregate-word
 slice-aggregate-word c = search needs
@@ -27,8 +25,8 @@ word-requires : tie.Need-word-requires
 word-requires c κs = search needs
 
 returns-2 : tie.Need-returns-2
-unfolding indexField letters
-returns-2 c = (rw (lt-leb _ _ (c .before .before .if1 .left)) (c .word .ensures), omega (arith, c .word .ensures .count))
+unfolding letters
+returns-2 c = let a = c .before .before .before .before .args in (rw (index-hidden (a .version) (a .fragment .now) (c .before .before .if1 .left)) (c .word .ensures), omega (arith, c .word .ensures .count))
 
 pub index-field-spec : {M : Type 1} → statement M
 index-field-spec =

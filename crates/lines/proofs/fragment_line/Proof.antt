@@ -1,11 +1,11 @@
--- `commands::fragment_line` meets its contract. Assumes nothing.
+-- `lines::fragment_line` meets its contract. Assumes nothing.
 use native.Mathlib.Omega.{arith}
 use borrow.Author.Needs.{needs}
-use Rattle.commands.proofs.Lines.{fragment-pieces}
+use Rattle.lines.proofs.Lines.{fragment-pieces}
 use Rattle.text.specs.Text.{letters}
 use Rattle.inspect.proofs.Laws.{place-prefix}
-use Rattle.commands.proofs.fragment_line.Statement.{statement}
-use Rattle.commands.proofs.fragment_line.Tie as tie
+use Rattle.lines.proofs.fragment_line.Statement.{statement}
+use Rattle.lines.proofs.fragment_line.Tie as tie
 
 cast-channels : tie.Need-cast-channels
 cast-channels c = search needs

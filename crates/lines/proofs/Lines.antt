@@ -1,14 +1,15 @@
 -- The lines as the code writes them, piece by piece. Assumes nothing.
 use mathlib.Core.Path.{_≡_, refl, sym, ap, _∙_}
 use mathlib.Core.List.{List, [], _∷_, _++_, append-assoc}
-use Prim.Native.Nat.{ℕ, zero, suc, _/_, _%_, _≤_}
+use Prim.Native.Nat.{ℕ, zero, suc, _/_, _%_, _≤_, _<_}
 use native.Mathlib.Omega.{arith}
+use borrow.Author.Tests.{le-leb, lt-leb}
 use lib.ListN.{take}
 use lib.Seq.{take-nil}
-use Rattle.format.specs.Layout.{volumeByte, count, fragmentAtPlace}
+use Rattle.format.specs.Layout.{volumeByte, indexByte, count, fragmentAtPlace}
 use Rattle.format.specs.declared.Header.{Header}
 use Rattle.text.specs.Text.{letters, decimal, spaced, line}
-use Rattle.commands.specs.Commands.{refusalLine, variantName, headerLine, indexField, fragmentLine}
+use Rattle.lines.specs.Lines.{refusalLine, variantName, headerLine, indexField, fragmentLine}
 
 -- ---- a refusal's line: no number returned, one, and two
 
@@ -37,6 +38,16 @@ module _ (n a b : ℕ) where
   two-returned k l = two-pieces ∙ ap (refusalLine n) (sym (both k l))
 
 -- ---- the inspector's lines
+
+-- the index field, and what stands for it in versions 1 and 2
+module _ (version : ℕ) (fragment : List ℕ) where
+  pub index-shown : 3 ≤ version → indexField version fragment ≡ decimal (indexByte fragment)
+  unfolding indexField
+  index-shown l = rw (le-leb _ _ l)
+
+  pub index-hidden : version < 3 → indexField version fragment ≡ letters "-"
+  unfolding indexField
+  index-hidden l = rw (lt-leb _ _ l)
 
 regroup : (a b c d e f : List ℕ) → ((((a ++ b) ++ c) ++ d) ++ e) ++ f ≡ a ++ (b ++ (c ++ (d ++ (e ++ f))))
 regroup a b c d e f = simp append-assoc
