@@ -1,26 +1,26 @@
--- Which refusals the programs can print. Assumes nothing.
-use mathlib.Core.Path.{_≡_, refl, sym, ap, _∙_, subst}
-use mathlib.Core.Bool.{Bool, true, false, _&&_, _||_}
-use mathlib.Core.List.{List, [], _∷_}
-use Prim.Native.Nat.{ℕ, _*_, _/_, _%_, _≤_}
+-- Which refusals the converter can print. Assumes nothing.
+use mathlib.Core.Path.{_≡_, refl, sym, ap, _∙_}
+use mathlib.Core.Bool.{true}
+use mathlib.Core.List.{List}
+use Prim.Native.Nat.{ℕ, _/_, _%_, _≤_}
 use native.Mathlib.Nat.{div-le-self}
 use native.Mathlib.Omega.{arith}
-use borrow.Author.Tests.{le-ltb, ltb-false, le-leb, eq-eqb, eqb-true}
-use lib.Dec.{T, leb, eqb}
+use lib.Dec.{eqb}
 use lib.IntN.{ℤ}
-use lib.ListN.{length, drop, length-take, length-drop}
-use Rattle.outcome.specs.Outcome.{Outcome, result, Refusing}
-use Rattle.outcome.proofs.Flags.{true-T, both-true, either-right, either-elim}
-use Rattle.outcome.proofs.Laws.{clear, pass, refusing-if, refusing-else, refusing-then, refusing-weaker}
-use Rattle.format.specs.Layout.{versionFor, channelsFit, streamLength}
+use lib.ListN.{length, length-take, length-drop}
+use borrow.Author.Tests.{le-ltb, eq-eqb, eqb-true}
+use Rattle.outcome.specs.Outcome.{result, Refusing}
+use Rattle.outcome.proofs.Flags.{either-elim}
+use Rattle.outcome.proofs.Laws.{clear, pass, refusing-then}
+use Rattle.format.specs.Layout.{channelsFit, streamLength}
 use Rattle.format.specs.Encode.{headerWritten, encoded, tooMany, encodeCall}
 use Rattle.format.specs.declared.Settings.{Settings}
 use Rattle.wav.specs.Wave.{frameBytes, oneOrTwo, readWave, partOf}
 use Rattle.wav.specs.Samples.{samplesOf}
 use Rattle.wav.specs.declared.Wave.{Wave}
-use Rattle.wav.proofs.Plain.{Plain, plain, PlainRefusal, plain-refusals}
+use Rattle.wav.proofs.Plain.{plain, PlainRefusal, plain-refusals}
 use Rattle.wav.proofs.Within.{samples-within}
-use Rattle.commands.specs.Commands.{encodeWhole, encodeWave, converted}
+use Rattle.commands.specs.Commands.{encodeWhole, encodeWave}
 use Rattle.commands.proofs.Printing.{length-samples}
 
 -- ---- the encoder takes each WAV that plain reading accepts and a program can read
@@ -59,23 +59,9 @@ module _ (k : Settings) (file : List ℕ) (w : Wave) (few : length file ≤ 6553
       (clear _ _ _ _ _ (le-ltb 4294967295 (length samples / w .channels) (omega (arith, div-le-self (length samples) (w .channels), count, size-few)))
       (clear _ _ _ _ _ (le-ltb needed needed (omega arith)) refl)))))
 
--- ---- the converter refuses with 38, 8 and 20 to 33, and with nothing else
-
-abbrev pub ConverterRefuses : ℕ → List ℕ → Type 0
-ConverterRefuses n vs = T (eqb n 38 || (eqb n 8 || (leb 20 n && leb n 33)))
-
-pub converter-refuses : (input : List ℕ) → Refusing ConverterRefuses (converted input)
-unfolding converted encodeWave Refusing
-converter-refuses input =
-    let P = ConverterRefuses in
-    refusing-if P _ 38 [] _ tt
-    (refusing-else P _ 38 [] _ tt λ l.
-    refusing-if P _ 8 _ _ tt
-    (refusing-then P _ _ (refusing-weaker P (readWave (drop 2 input)) of-table (plain-refusals (drop 2 input)))
-    λ w e. encodes _ _ (wave-encodes _ (drop 2 input) w (simp length-drop (omega (arith, ltb-false 65536 (length input) l))) e)))
-  where
-    encodes : (o : Outcome (List ℕ)) (text : List ℕ) → o ≡ result text → Refusing ConverterRefuses o
-    encodes o text e = rw e tt
-
-    of-table : (n : ℕ) (vs : List ℕ) → PlainRefusal n vs → ConverterRefuses n vs
-    of-table n vs p = true-T _ (either-right (eqb n 38) _ (either-right (eqb n 8) _ (both-true _ _ (le-leb 20 n (p .0)) (le-leb n 33 (p .1)))))
+-- so that past its own checks 38 and 8 the converter refuses as plain reading does: with 20 to 33, and no numbers returned
+pub wave-refusals : (k : Settings) (file : List ℕ) → length file ≤ 65536 → Refusing PlainRefusal (encodeWave k file)
+unfolding encodeWave Refusing
+wave-refusals k file few =
+    refusing-then PlainRefusal _ _ (plain-refusals file) λ w e.
+    rw (wave-encodes k file w few e) tt

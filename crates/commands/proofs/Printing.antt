@@ -1,23 +1,24 @@
 -- What the functions print, case by case, and that it fits. Assumes nothing.
 use mathlib.Core.Path.{_≡_, refl, sym, _∙_}
 use mathlib.Core.Bool.{Bool, true, false, cond}
-use mathlib.Core.List.{List, []}
-use Prim.Native.Nat.{ℕ, _+_, _*_, _/_, _≤_}
+use mathlib.Core.List.{List, [], _∷_}
+use Prim.Native.Nat.{ℕ, _+_, _*_, _/_, _≤_, _<_}
 use native.Mathlib.Nat.{mul-le-mul-left, zero-add}
 use native.Mathlib.Numerals.{add-one}
 use native.Mathlib.Omega.{arith}
 use lib.Dec.{eqb}
 use lib.IntN.{ℤ}
-use lib.ListN.{length, take, length-take, length-drop}
+use lib.ListN.{length, getD, take, drop, length-take, length-drop}
 use lib.Seq.{take-at, length-take-le}
 use borrow.Author.Tests.{le-ltb, eqb-true}
 use Rattle.outcome.specs.Outcome.{Outcome, result, refused, refuseIf, need, onResult, outputAfter}
 use Rattle.outcome.proofs.Flags.{either-elim}
-use Rattle.outcome.proofs.Laws.{clear, then-result, then-refused, refusing-is}
+use Rattle.outcome.proofs.Laws.{checks, clear, then-result, then-refused, on-result, on-refused, refusing-is}
 use Rattle.lists.specs.Lists.{joined}
 use Rattle.lists.proofs.ByIndex.{length-tabulate}
-use Rattle.format.specs.Layout.{anew, versionFor, channelsFit, payloadBytes, frames, sizeIn, streamLength}
+use Rattle.format.specs.Layout.{variantOf, anew, versionFor, channelsFit, payloadBytes, frames, sizeIn, streamLength}
 use Rattle.format.specs.Encode.{headerWritten, encodeCall}
+use Rattle.format.specs.Inspect.{inspected}
 use Rattle.format.specs.declared.Header.{Header}
 use Rattle.format.specs.declared.Settings.{Settings}
 use Rattle.format.specs.declared.Variant.{Variant}
@@ -31,7 +32,7 @@ use Rattle.wav.proofs.Plain.{PlainRefusal, plain-refusals}
 use Rattle.io.specs.Counts.{Counts}
 use Rattle.text.specs.Text.{written, Put}
 use Rattle.text.proofs.Laws.{put-none, then-put, put-ends}
-use Rattle.commands.specs.Commands.{printed, encodeWhole, encodeWave}
+use Rattle.commands.specs.Commands.{printed, encodeWhole, encodeWave, converted, report, reported}
 use Rattle.lines.specs.Lines.{refusalLine, fragmentLine}
 use Rattle.wav.specs.declared.WaveFilled.the-variants as F
 
@@ -163,3 +164,38 @@ pub part-few : (file : List ℕ) (o : Outcome Wave) → length (partOf file o) �
 unfolding partOf
 part-few file (result w) = simp (length-take, length-drop) (omega arith)
 part-few file (refused n vs) = omega arith
+
+-- ---- the programs' own checks
+
+module _ (input : List ℕ) where
+  abbrev pub settings : Settings
+  settings = record { variant = variantOf (getD input 0 0); gain = getD input 1 0 }
+
+  pub short-refused : length input < 2 → refused 38 [] ≡ converted input
+  unfolding converted
+  short-refused l = search checks depth 12
+
+  pub long-refused : 2 ≤ length input → 65536 < length input → refused 38 [] ≡ converted input
+  unfolding converted
+  long-refused two l = search checks depth 12
+
+  pub variant-refused : 2 ≤ length input → length input ≤ 65536 → 2 < getD input 0 0 → refused 8 (getD input 0 0 ∷ []) ≡ converted input
+  unfolding converted
+  variant-refused two few v = search checks depth 12
+
+  pub rest-converted : 2 ≤ length input → length input ≤ 65536 → getD input 0 0 ≤ 2 → encodeWave settings (drop 2 input) ≡ converted input
+  unfolding converted
+  rest-converted two few v = search checks depth 12
+
+module _ (d : List ℕ) where
+  pub stream-too-long : 65536 < length d → refused 38 [] ≡ reported d
+  unfolding reported
+  stream-too-long l = search checks depth 12
+
+  pub stream-refused : {n : ℕ} {vs : List ℕ} → length d ≤ 65536 → refused n vs ≡ inspected d → refused n vs ≡ reported d
+  unfolding reported
+  stream-refused few e = clear _ _ _ _ _ (le-ltb _ _ few) (on-refused _ _ e)
+
+  pub stream-reported : {h : Header} → length d ≤ 65536 → result h ≡ inspected d → result (report d h) ≡ reported d
+  unfolding reported
+  stream-reported few e = clear _ _ _ _ _ (le-ltb _ _ few) (sym (on-result _ _ (sym e)))

@@ -1,12 +1,8 @@
 -- `commands::convert` meets its contract. Assumes nothing.
-use mathlib.Core.Path.{refl}
 use native.Mathlib.Omega.{arith}
-use borrow.Author.Tests.{lt-ltb, le-ltb}
 use borrow.Author.Needs.{needs}
 use Rattle.digits.proofs.Laws.{tail-all}
-use Rattle.commands.proofs.Printing.{prints-line, counts}
-use Rattle.commands.specs.Commands.{converted}
-use Rattle.outcome.proofs.Laws.{met, clear}
+use Rattle.commands.proofs.Printing.{prints-line, counts, short-refused, long-refused, variant-refused, rest-converted}
 use Rattle.commands.proofs.convert.Statement.{statement}
 use Rattle.commands.proofs.convert.Tie as tie
 
@@ -17,8 +13,7 @@ put-refusal-requires : tie.Need-put-refusal-requires
 put-refusal-requires c κs = search needs
 
 returns : tie.Need-returns
-unfolding converted
-returns c = (counts (c .put-refusal .ensures) (c .put-refusal .kept .0), prints-line _ (met _ _ _ _ (lt-ltb _ _ (c .before .before .before .if1 .taken))) (rw (c .before .none .ensures .0) at (c .put-refusal .ensures)))
+returns c = (counts (c .put-refusal .ensures) (c .put-refusal .kept .0), prints-line _ (short-refused _ (c .before .before .before .if1 .taken)) (rw (c .before .none .ensures .0) at (c .put-refusal .ensures)))
 
 none-requires-2 : tie.Need-none-requires-2
 none-requires-2 c κs = search needs
@@ -27,8 +22,7 @@ put-refusal-requires-2 : tie.Need-put-refusal-requires-2
 put-refusal-requires-2 c κs = search needs
 
 returns-2 : tie.Need-returns-2
-unfolding converted
-returns-2 c = (counts (c .put-refusal2 .ensures) (c .put-refusal2 .kept .0), prints-line _ (clear _ _ _ _ _ (le-ltb _ _ (c .before .before .before .before .if1 .left)) (met _ _ _ _ (lt-ltb _ _ (c .before .before .before .if2 .taken)))) (rw (c .before .none2 .ensures .0) at (c .put-refusal2 .ensures)))
+returns-2 c = (counts (c .put-refusal2 .ensures) (c .put-refusal2 .kept .0), prints-line _ (long-refused _ (c .before .before .before .before .if1 .left) (c .before .before .before .if2 .taken)) (rw (c .before .none2 .ensures .0) at (c .put-refusal2 .ensures)))
 
 shared-slice-read-variant : tie.Need-shared-slice-read-variant
 shared-slice-read-variant c = search needs
@@ -43,8 +37,7 @@ put-refusal-requires-3 : tie.Need-put-refusal-requires-3
 put-refusal-requires-3 c κs = search needs
 
 returns-3 : tie.Need-returns-3
-unfolding converted
-returns-3 c = (counts (c .put-refusal3 .ensures) (c .put-refusal3 .kept .0), prints-line _ (clear _ _ _ _ _ (le-ltb _ _ (c .before .before .before .before .before .before .if1 .left)) (clear _ _ _ _ _ (le-ltb _ _ (c .before .before .before .before .before .if2 .left)) (met _ _ _ _ (lt-ltb _ _ (c .before .before .before .if3 .taken))))) (rw (c .before .one .ensures .0, c .before .one .ensures .1) at (c .put-refusal3 .ensures)))
+returns-3 c = (counts (c .put-refusal3 .ensures) (c .put-refusal3 .kept .0), prints-line _ (variant-refused _ (c .before .before .before .before .before .before .if1 .left) (c .before .before .before .before .before .if2 .left) (c .before .before .before .if3 .taken)) (rw (c .before .one .ensures .0, c .before .one .ensures .1) at (c .put-refusal3 .ensures)))
 
 from-byte-requires : tie.Need-from-byte-requires
 from-byte-requires c κs = search needs
@@ -65,8 +58,8 @@ put-wave-requires : tie.Need-put-wave-requires
 put-wave-requires c κs = search needs
 
 returns-4 : tie.Need-returns-4
-unfolding converted
-returns-4 c = (counts (c .put-wave .ensures) (c .put-wave .kept .0), rw (← (clear _ _ _ _ _ (le-ltb _ _ (c .before .before .before .before .before .before .before .before .if1 .left)) (clear _ _ _ _ _ (le-ltb _ _ (c .before .before .before .before .before .before .before .if2 .left)) (clear _ _ _ _ _ (le-ltb _ _ (c .before .before .before .before .before .if3 .left)) refl)))) (rw (c .before .before .before .before .from-byte .ensures, tail-all 2 (c .before .before .before .before .before .before .before .before .before .before .args .input .now)) at (c .put-wave .ensures)))
+returns-4 c = let input = c .before .before .before .before .before .before .before .before .before .before .args .input .now in
+    (counts (c .put-wave .ensures) (c .put-wave .kept .0), rw (← (rest-converted input (c .before .before .before .before .before .before .before .before .if1 .left) (c .before .before .before .before .before .before .before .if2 .left) (c .before .before .before .before .before .if3 .left))) (rw (c .before .before .before .before .from-byte .ensures, tail-all 2 input) at (c .put-wave .ensures)))
 
 pub convert-spec : {M : Type 1} → statement M
 convert-spec =

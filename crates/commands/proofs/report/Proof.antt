@@ -1,13 +1,10 @@
 -- `commands::report` meets its contract. Assumes nothing.
 use mathlib.Core.Path.{sym}
-use borrow.Author.Tests.{lt-ltb, le-ltb}
 use borrow.Author.Needs.{needs}
-use Rattle.commands.proofs.Printing.{prints-line, prints-text, counts}
-use Rattle.commands.specs.Commands.{reported}
+use Rattle.commands.proofs.Printing.{prints-line, prints-text, counts, stream-too-long, stream-refused, stream-reported}
 use Rattle.format.proofs.Sizes.{channels-few}
 use Rattle.format.proofs.Accepted.{accepted}
 use Rattle.format.specs.Answers.{inspectedOf}
-use Rattle.outcome.proofs.Laws.{met, clear, on-result, on-refused}
 use Rattle.commands.proofs.report.Statement.{statement}
 use Rattle.commands.proofs.report.Tie as tie
 
@@ -18,8 +15,7 @@ put-refusal-requires : tie.Need-put-refusal-requires
 put-refusal-requires c κs = search needs
 
 returns : tie.Need-returns
-unfolding reported
-returns c = (counts (c .put-refusal .ensures) (c .put-refusal .kept .0), prints-line _ (met _ _ _ _ (lt-ltb _ _ (c .before .before .before .if1 .taken))) (rw (c .before .none .ensures .0) at (c .put-refusal .ensures)))
+returns c = (counts (c .put-refusal .ensures) (c .put-refusal .kept .0), prints-line _ (stream-too-long _ (c .before .before .before .if1 .taken)) (rw (c .before .none .ensures .0) at (c .put-refusal .ensures)))
 
 inspect-requires : tie.Need-inspect-requires
 inspect-requires c κs = search needs
@@ -44,14 +40,14 @@ put-refusal-requires-2 : tie.Need-put-refusal-requires-2
 put-refusal-requires-2 c κs = search needs
 
 returns-2 : tie.Need-returns-2
-unfolding reported inspectedOf
+unfolding inspectedOf
 returns-2 c = let q = rw (c .before .before .before .h .given .1) at (c .before .before .before .before .before .inspect .ensures) in
-    (counts (c .put-report .ensures) (c .put-report .kept .0), prints-text _ (clear _ _ _ _ _ (le-ltb _ _ (c .before .before .before .before .before .before .if1 .left)) (sym (on-result _ _ (sym q)))) (c .put-report .ensures))
+    (counts (c .put-report .ensures) (c .put-report .kept .0), prints-text _ (stream-reported _ (c .before .before .before .before .before .before .if1 .left) q) (c .put-report .ensures))
 
 returns-3 : tie.Need-returns-3
-unfolding reported inspectedOf
+unfolding inspectedOf
 returns-3 c = let q = rw (c .before .before .before .before .before .e .given .1) at (c .before .before .before .before .before .before .before .inspect .ensures) in
-    (counts (c .put-refusal2 .ensures) (c .put-refusal2 .kept .0), prints-line _ (clear _ _ _ _ _ (le-ltb _ _ (c .before .before .before .before .before .before .before .before .if1 .left)) (on-refused _ _ q)) (rw (c .before .before .number .ensures, c .before .values .ensures) at (c .put-refusal2 .ensures)))
+    (counts (c .put-refusal2 .ensures) (c .put-refusal2 .kept .0), prints-line _ (stream-refused _ (c .before .before .before .before .before .before .before .before .if1 .left) q) (rw (c .before .before .number .ensures, c .before .values .ensures) at (c .put-refusal2 .ensures)))
 
 pub report-spec : {M : Type 1} → statement M
 report-spec =
