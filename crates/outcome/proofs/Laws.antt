@@ -90,12 +90,6 @@ module _ {A : Type 0} (P : ℕ → List ℕ → Type 0) where
   refusing-if true n vs rest p r = p
   refusing-if false n vs rest p r = r
 
-  -- where the rest leans on the check
-  pub refusing-else : (b : Bool) (n : ℕ) (vs : List ℕ) (rest : Outcome A) → P n vs → (b ≡ false → Refusing P rest) → Refusing P (refuseIf b n vs rest)
-  unfolding Refusing refuseIf
-  refusing-else true n vs rest p r = p
-  refusing-else false n vs rest p r = r refl
-
   pub refusing-need : (b : Bool) (n : ℕ) (vs : List ℕ) (rest : Outcome A) → P n vs → Refusing P rest → Refusing P (need b n vs rest)
   unfolding Refusing need
   refusing-need true n vs rest p r = r
@@ -110,11 +104,6 @@ module _ {A : Type 0} (P : ℕ → List ℕ → Type 0) where
   unfolding Refusing andThen
   refusing-then (result b) k p r = r b refl
   refusing-then (refused n vs) k p r = p
-
-  pub refusing-weaker : {Q : ℕ → List ℕ → Type 0} (o : Outcome A) → ((n : ℕ) (vs : List ℕ) → Q n vs → P n vs) → Refusing Q o → Refusing P o
-  unfolding Refusing
-  refusing-weaker (result a) f r = tt
-  refusing-weaker (refused n vs) f r = f n vs r
 
   pub ruleset refusals = (refusing-if, refusing-need, refusing-branch, refusing-then)
 
