@@ -1,0 +1,293 @@
+// The interface for C and Rust: the public calls of the codec and of WAV reading and writing under plain names, with answers by value.
+use format::Decoded;
+use format::Encoded;
+use format::Error;
+use format::FragmentDecoded;
+use format::Header;
+use format::Inspected;
+use format::State;
+use format::Variant;
+use wav::WaveError;
+use wav::WaveFilled;
+use wav::WaveRead;
+
+// A count, or a refusal: 0 and how many bytes or samples were written; or the number in 01's table and its returned numbers, 0 where
+// there are none.
+#[repr(C)]
+pub struct Answer {
+    pub refusal: usize,
+    pub first: usize,
+    pub second: usize,
+}
+
+// A header, or a refusal as in `Answer`. What the other would fill is 0.
+#[repr(C)]
+pub struct HeaderAnswer {
+    pub refusal: usize,
+    pub first: usize,
+    pub second: usize,
+    pub version: u8,
+    pub variant: u8,
+    pub channels: u8,
+    pub rate: u32,
+    pub samples: u32,
+}
+
+// What a WAV file says, and where in it the sample bytes lie; or the number of a refusal, and zeros.
+#[repr(C)]
+pub struct WaveAnswer {
+    pub refusal: usize,
+    pub channels: u16,
+    pub rate: u32,
+    pub start: usize,
+    pub size: usize,
+}
+
+// What decoding one fragment gives: a count or a refusal as in `Answer`, and the channel's state after the call.
+#[repr(C)]
+pub struct FragmentAnswer {
+    pub refusal: usize,
+    pub first: usize,
+    pub predictor: i32,
+    pub index: usize,
+}
+
+// ---- the answers of the rooms below, as these structs
+
+// A refusal of the codec.
+fn refused_answer(error: Error) -> Answer {
+    let number = error.number() as usize;
+    let values = error.values();
+    if values.count == 0 {
+        return Answer {
+            refusal: number,
+            first: 0,
+            second: 0,
+        };
+    }
+    if values.count == 1 {
+        return Answer {
+            refusal: number,
+            first: values.first,
+            second: 0,
+        };
+    }
+    Answer {
+        refusal: number,
+        first: values.first,
+        second: values.second,
+    }
+}
+
+fn written_answer(count: usize) -> Answer {
+    Answer {
+        refusal: 0,
+        first: count,
+        second: 0,
+    }
+}
+
+fn encoded_answer(answer: Encoded) -> Answer {
+    match answer {
+        Encoded::Written(w) => written_answer(w.length),
+        Encoded::Refused(e) => refused_answer(e),
+    }
+}
+
+fn header_answer(h: Header) -> HeaderAnswer {
+    let variant = h.variant;
+    HeaderAnswer {
+        refusal: 0,
+        first: 0,
+        second: 0,
+        version: h.version,
+        variant: variant.byte(),
+        channels: h.channels,
+        rate: h.rate,
+        samples: h.samples,
+    }
+}
+
+fn refused_header(error: Error) -> HeaderAnswer {
+    let a = refused_answer(error);
+    HeaderAnswer {
+        refusal: a.refusal,
+        first: a.first,
+        second: a.second,
+        version: 0,
+        variant: 0,
+        channels: 0,
+        rate: 0,
+        samples: 0,
+    }
+}
+
+fn inspected_answer(answer: Inspected) -> HeaderAnswer {
+    match answer {
+        Inspected::Accepted(h) => header_answer(h),
+        Inspected::Refused(e) => refused_header(e),
+    }
+}
+
+fn decoded_answer(answer: Decoded) -> HeaderAnswer {
+    match answer {
+        Decoded::Filled(h) => header_answer(h),
+        Decoded::Refused(e) => refused_header(e),
+    }
+}
+
+fn played_answer(answer: FragmentDecoded) -> Answer {
+    match answer {
+        FragmentDecoded::Filled(n) => written_answer(n),
+        FragmentDecoded::Refused(e) => refused_answer(e),
+    }
+}
+
+fn read_answer(answer: WaveRead) -> WaveAnswer {
+    match answer {
+        WaveRead::Accepted(w) => {
+            let part = w.samples;
+            WaveAnswer {
+                refusal: 0,
+                channels: w.channels,
+                rate: w.rate,
+                start: part.start,
+                size: part.size,
+            }
+        }
+        WaveRead::Refused(e) => WaveAnswer {
+            refusal: e.number() as usize,
+            channels: 0,
+            rate: 0,
+            start: 0,
+            size: 0,
+        },
+    }
+}
+
+// A refusal of a WAV call. Only 13 returns a number.
+fn refused_wave(error: WaveError) -> Answer {
+    match error {
+        WaveError::OutputTooShort(needed) => Answer {
+            refusal: 13,
+            first: needed,
+            second: 0,
+        },
+        _ => Answer {
+            refusal: error.number() as usize,
+            first: 0,
+            second: 0,
+        },
+    }
+}
+
+fn filled_answer(answer: WaveFilled) -> Answer {
+    match answer {
+        WaveFilled::Filled(n) => written_answer(n),
+        WaveFilled::Refused(e) => refused_wave(e),
+    }
+}
+
+// ---- the calls
+
+// Encodes interleaved samples into `out`, as a stream of version 3, and answers its length.
+#[no_mangle]
+pub extern "C" fn postlapse_encode(
+    pcm: &[i16],
+    channels: u8,
+    rate: u32,
+    variant: u8,
+    gain: u8,
+    out: &mut [u8],
+) -> Answer {
+    if 2 < variant {
+        return refused_answer(Error::InvalidVariant(variant));
+    }
+    let kind = Variant::from_byte(variant);
+    encoded_answer(sqv4::encode_interleaved(pcm, channels, rate, kind, gain, out))
+}
+
+// The header of a stream that is sound throughout.
+#[no_mangle]
+pub extern "C" fn postlapse_inspect(file: &[u8]) -> HeaderAnswer {
+    inspected_answer(inspect::inspect(file))
+}
+
+// Decodes a whole stream into `out`, its channels interleaved, and answers its header.
+#[no_mangle]
+pub extern "C" fn postlapse_decode(file: &[u8], out: &mut [i16]) -> HeaderAnswer {
+    decoded_answer(sqv4::decode(file, out))
+}
+
+// What decoding one fragment comes to: the answer, and the channel's state after the call.
+struct Played {
+    answer: Answer,
+    state: State,
+}
+
+// Decodes one fragment; the variant is its byte.
+fn play(version: u8, variant: u8, state: State, fragment: &[u8], out: &mut [i16]) -> Played {
+    if 2 < variant {
+        let answer = refused_answer(Error::InvalidVariant(variant));
+        return Played { answer, state };
+    }
+    let kind = Variant::from_byte(variant);
+    let r = fragment::decode_one(version, kind, state, fragment, out);
+    let given = r.answer;
+    let next = r.state;
+    let answer = played_answer(given);
+    Played {
+        answer,
+        state: next,
+    }
+}
+
+// Decodes as many samples of one fragment as `out` has places, at most a frame's, from the channel's state.
+#[no_mangle]
+pub extern "C" fn postlapse_decode_fragment(
+    version: u8,
+    variant: u8,
+    predictor: i32,
+    index: usize,
+    fragment: &[u8],
+    out: &mut [i16],
+) -> FragmentAnswer {
+    let r = play(version, variant, State { predictor, index }, fragment, out);
+    let a = r.answer;
+    let s = r.state;
+    FragmentAnswer {
+        refusal: a.refusal,
+        first: a.first,
+        predictor: s.predictor,
+        index: s.index,
+    }
+}
+
+// What a WAV file says, and where its sample bytes lie.
+#[no_mangle]
+pub extern "C" fn postlapse_read_wave(file: &[u8]) -> WaveAnswer {
+    read_answer(wav::read_pcm16_wave(file))
+}
+
+// The same for a file without leftovers.
+#[no_mangle]
+pub extern "C" fn postlapse_read_strict_wave(file: &[u8]) -> WaveAnswer {
+    read_answer(wav::read_strict(file))
+}
+
+// Sample bytes as 16-bit numbers, and how many there are.
+#[no_mangle]
+pub extern "C" fn postlapse_load_samples(bytes: &[u8], out: &mut [i16]) -> Answer {
+    filled_answer(wav::load_samples(bytes, out))
+}
+
+// Writes a WAV file of the interleaved samples to the front of `out`, and answers its length.
+#[no_mangle]
+pub extern "C" fn postlapse_write_wave(
+    channels: u8,
+    rate: u32,
+    samples: &[i16],
+    out: &mut [u8],
+) -> Answer {
+    filled_answer(wav_writer::write_pcm16_wave(channels, rate, samples, out))
+}
