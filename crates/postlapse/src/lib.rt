@@ -10,6 +10,17 @@ use format::Variant;
 use wav::WaveError;
 use wav::WaveFilled;
 use wav::WaveRead;
+ghost use mathlib.Core.Path.{_≡_};
+ghost use lib.ListN.{length};
+ghost use Rattle.outcome.specs.Outcome.{result};
+ghost use Rattle.format.specs.Answers.{refusal, inspectedOf, encodedOf, decodedOf, fragmentDecodedOf};
+ghost use Rattle.format.specs.Inspect.{inspected, decodeCall};
+ghost use Rattle.wav.specs.Answers as wave;
+ghost use Rattle.wav.specs.Samples.{samplesCall};
+ghost use Rattle.wav.specs.Wave.{readWave, readStrict};
+ghost use Rattle.wav_writer.specs.Writer.{writeCall};
+ghost use Rattle.postlapse.specs.Answers.{answerOf, headerAnswerOf, waveAnswerOf};
+ghost use Rattle.postlapse.specs.Promises.{encodeForC, fragmentForC, Fills, Decodes, Plays, PlaysByValue};
 
 // A count, or a refusal: 0 and how many bytes or samples were written; or the number in 01's table and its returned numbers, 0 where
 // there are none.
@@ -55,7 +66,9 @@ pub struct FragmentAnswer {
 // ---- the answers of the rooms below, as these structs
 
 // A refusal of the codec.
-fn refused_answer(error: Error) -> Answer {
+fn refused_answer(error: Error) -> Answer
+    ensures { λ r. ⌜ r ≡ answerOf (refusal error) ⌝ }
+{
     let number = error.number() as usize;
     let values = error.values();
     if values.count == 0 {
@@ -79,7 +92,9 @@ fn refused_answer(error: Error) -> Answer {
     }
 }
 
-fn written_answer(count: usize) -> Answer {
+fn written_answer(count: usize) -> Answer
+    ensures { λ r. ⌜ r ≡ answerOf (result count) ⌝ }
+{
     Answer {
         refusal: 0,
         first: count,
@@ -87,14 +102,18 @@ fn written_answer(count: usize) -> Answer {
     }
 }
 
-fn encoded_answer(answer: Encoded) -> Answer {
+fn encoded_answer(answer: Encoded) -> Answer
+    ensures { λ r. ⌜ r ≡ answerOf (encodedOf answer) ⌝ }
+{
     match answer {
         Encoded::Written(w) => written_answer(w.length),
         Encoded::Refused(e) => refused_answer(e),
     }
 }
 
-fn header_answer(h: Header) -> HeaderAnswer {
+fn header_answer(h: Header) -> HeaderAnswer
+    ensures { λ r. ⌜ r ≡ headerAnswerOf (result h) ⌝ }
+{
     let variant = h.variant;
     HeaderAnswer {
         refusal: 0,
@@ -108,7 +127,9 @@ fn header_answer(h: Header) -> HeaderAnswer {
     }
 }
 
-fn refused_header(error: Error) -> HeaderAnswer {
+fn refused_header(error: Error) -> HeaderAnswer
+    ensures { λ r. ⌜ r ≡ headerAnswerOf (refusal error) ⌝ }
+{
     let a = refused_answer(error);
     HeaderAnswer {
         refusal: a.refusal,
@@ -122,28 +143,36 @@ fn refused_header(error: Error) -> HeaderAnswer {
     }
 }
 
-fn inspected_answer(answer: Inspected) -> HeaderAnswer {
+fn inspected_answer(answer: Inspected) -> HeaderAnswer
+    ensures { λ r. ⌜ r ≡ headerAnswerOf (inspectedOf answer) ⌝ }
+{
     match answer {
         Inspected::Accepted(h) => header_answer(h),
         Inspected::Refused(e) => refused_header(e),
     }
 }
 
-fn decoded_answer(answer: Decoded) -> HeaderAnswer {
+fn decoded_answer(answer: Decoded) -> HeaderAnswer
+    ensures { λ r. ⌜ r ≡ headerAnswerOf (decodedOf answer) ⌝ }
+{
     match answer {
         Decoded::Filled(h) => header_answer(h),
         Decoded::Refused(e) => refused_header(e),
     }
 }
 
-fn played_answer(answer: FragmentDecoded) -> Answer {
+fn played_answer(answer: FragmentDecoded) -> Answer
+    ensures { λ r. ⌜ r ≡ answerOf (fragmentDecodedOf answer) ⌝ }
+{
     match answer {
         FragmentDecoded::Filled(n) => written_answer(n),
         FragmentDecoded::Refused(e) => refused_answer(e),
     }
 }
 
-fn read_answer(answer: WaveRead) -> WaveAnswer {
+fn read_answer(answer: WaveRead) -> WaveAnswer
+    ensures { λ r. ⌜ r ≡ waveAnswerOf (wave.readOf answer) ⌝ }
+{
     match answer {
         WaveRead::Accepted(w) => {
             let part = w.samples;
@@ -166,7 +195,9 @@ fn read_answer(answer: WaveRead) -> WaveAnswer {
 }
 
 // A refusal of a WAV call. Only 13 returns a number.
-fn refused_wave(error: WaveError) -> Answer {
+fn refused_wave(error: WaveError) -> Answer
+    ensures { λ r. ⌜ r ≡ answerOf (wave.refusal error) ⌝ }
+{
     match error {
         WaveError::OutputTooShort(needed) => Answer {
             refusal: 13,
@@ -181,7 +212,9 @@ fn refused_wave(error: WaveError) -> Answer {
     }
 }
 
-fn filled_answer(answer: WaveFilled) -> Answer {
+fn filled_answer(answer: WaveFilled) -> Answer
+    ensures { λ r. ⌜ r ≡ answerOf (wave.filledOf answer) ⌝ }
+{
     match answer {
         WaveFilled::Filled(n) => written_answer(n),
         WaveFilled::Refused(e) => refused_wave(e),
@@ -199,7 +232,10 @@ pub extern "C" fn postlapse_encode(
     variant: u8,
     gain: u8,
     out: &mut [u8],
-) -> Answer {
+) -> Answer
+    ensures { λ r. ⌜ Fills (encodeForC variant gain (now (pcm .entry)) channels rate (length (now (out .entry))))
+        (now (out .entry)) r (now (out .exit)) ⌝ }
+{
     if 2 < variant {
         return refused_answer(Error::InvalidVariant(variant));
     }
@@ -209,13 +245,18 @@ pub extern "C" fn postlapse_encode(
 
 // The header of a stream that is sound throughout.
 #[no_mangle]
-pub extern "C" fn postlapse_inspect(file: &[u8]) -> HeaderAnswer {
+pub extern "C" fn postlapse_inspect(file: &[u8]) -> HeaderAnswer
+    ensures { λ r. ⌜ r ≡ headerAnswerOf (inspected (now (file .entry))) ⌝ }
+{
     inspected_answer(inspect::inspect(file))
 }
 
 // Decodes a whole stream into `out`, its channels interleaved, and answers its header.
 #[no_mangle]
-pub extern "C" fn postlapse_decode(file: &[u8], out: &mut [i16]) -> HeaderAnswer {
+pub extern "C" fn postlapse_decode(file: &[u8], out: &mut [i16]) -> HeaderAnswer
+    ensures { λ r. ⌜ Decodes (decodeCall (now (file .entry)) (length (now (out .entry))))
+        (now (out .entry)) r (now (out .exit)) ⌝ }
+{
     decoded_answer(sqv4::decode(file, out))
 }
 
@@ -226,7 +267,10 @@ struct Played {
 }
 
 // Decodes one fragment; the variant is its byte.
-fn play(version: u8, variant: u8, state: State, fragment: &[u8], out: &mut [i16]) -> Played {
+fn play(version: u8, variant: u8, state: State, fragment: &[u8], out: &mut [i16]) -> Played
+    ensures { λ r. ⌜ Plays (fragmentForC version variant state (now (fragment .entry)) (length (now (out .entry))))
+        state (now (out .entry)) (r .answer) (r .state) (now (out .exit)) ⌝ }
+{
     if 2 < variant {
         let answer = refused_answer(Error::InvalidVariant(variant));
         return Played { answer, state };
@@ -251,7 +295,10 @@ pub extern "C" fn postlapse_decode_fragment(
     index: usize,
     fragment: &[u8],
     out: &mut [i16],
-) -> FragmentAnswer {
+) -> FragmentAnswer
+    ensures { λ r. ⌜ PlaysByValue (fragmentForC version variant (record { predictor = predictor; index = index }) (now (fragment .entry)) (length (now (out .entry))))
+        (record { predictor = predictor; index = index }) (now (out .entry)) r (now (out .exit)) ⌝ }
+{
     let r = play(version, variant, State { predictor, index }, fragment, out);
     let a = r.answer;
     let s = r.state;
@@ -265,19 +312,26 @@ pub extern "C" fn postlapse_decode_fragment(
 
 // What a WAV file says, and where its sample bytes lie.
 #[no_mangle]
-pub extern "C" fn postlapse_read_wave(file: &[u8]) -> WaveAnswer {
+pub extern "C" fn postlapse_read_wave(file: &[u8]) -> WaveAnswer
+    ensures { λ r. ⌜ r ≡ waveAnswerOf (readWave (now (file .entry))) ⌝ }
+{
     read_answer(wav::read_pcm16_wave(file))
 }
 
 // The same for a file without leftovers.
 #[no_mangle]
-pub extern "C" fn postlapse_read_strict_wave(file: &[u8]) -> WaveAnswer {
+pub extern "C" fn postlapse_read_strict_wave(file: &[u8]) -> WaveAnswer
+    ensures { λ r. ⌜ r ≡ waveAnswerOf (readStrict (now (file .entry))) ⌝ }
+{
     read_answer(wav::read_strict(file))
 }
 
 // Sample bytes as 16-bit numbers, and how many there are.
 #[no_mangle]
-pub extern "C" fn postlapse_load_samples(bytes: &[u8], out: &mut [i16]) -> Answer {
+pub extern "C" fn postlapse_load_samples(bytes: &[u8], out: &mut [i16]) -> Answer
+    ensures { λ r. ⌜ Fills (samplesCall (now (bytes .entry)) (length (now (out .entry))))
+        (now (out .entry)) r (now (out .exit)) ⌝ }
+{
     filled_answer(wav::load_samples(bytes, out))
 }
 
@@ -288,6 +342,9 @@ pub extern "C" fn postlapse_write_wave(
     rate: u32,
     samples: &[i16],
     out: &mut [u8],
-) -> Answer {
+) -> Answer
+    ensures { λ r. ⌜ Fills (writeCall channels rate (now (samples .entry)) (length (now (out .entry))))
+        (now (out .entry)) r (now (out .exit)) ⌝ }
+{
     filled_answer(wav_writer::write_pcm16_wave(channels, rate, samples, out))
 }
