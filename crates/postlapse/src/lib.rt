@@ -310,6 +310,24 @@ pub extern "C" fn postlapse_decode_fragment(
     }
 }
 
+// The same with the channel's state lent: it is changed in place.
+#[no_mangle]
+pub extern "C" fn postlapse_decode_fragment_lent(
+    version: u8,
+    variant: u8,
+    state: &mut State,
+    fragment: &[u8],
+    out: &mut [i16],
+) -> Answer
+    ensures { λ r. ⌜ Plays (fragmentForC version variant (now (state .entry)) (now (fragment .entry)) (length (now (out .entry))))
+        (now (state .entry)) (now (out .entry)) r (now (state .exit)) (now (out .exit)) ⌝ }
+{
+    let s = *state;
+    let r = play(version, variant, s, fragment, out);
+    *state = r.state;
+    r.answer
+}
+
 // What a WAV file says, and where its sample bytes lie.
 #[no_mangle]
 pub extern "C" fn postlapse_read_wave(file: &[u8]) -> WaveAnswer
