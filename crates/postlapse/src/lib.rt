@@ -266,17 +266,17 @@ struct Played {
     state: State,
 }
 
-// Decodes one fragment; the variant is its byte.
-fn play(version: u8, variant: u8, state: State, fragment: &[u8], out: &mut [i16]) -> Played
-    ensures { λ r. ⌜ Plays (fragmentForC version variant state (now (fragment .entry)) (length (now (out .entry))))
+// Decodes one fragment of the variant that a byte names.
+fn play(version: u8, byte: u8, state: State, fragment: &[u8], out: &mut [i16]) -> Played
+    ensures { λ r. ⌜ Plays (fragmentForC version byte state (now (fragment .entry)) (length (now (out .entry))))
         state (now (out .entry)) (r .answer) (r .state) (now (out .exit)) ⌝ }
 {
-    if 2 < variant {
-        let answer = refused_answer(Error::InvalidVariant(variant));
+    if 2 < byte {
+        let answer = refused_answer(Error::InvalidVariant(byte));
         return Played { answer, state };
     }
-    let kind = Variant::from_byte(variant);
-    let r = fragment::decode_one(version, kind, state, fragment, out);
+    let variant = Variant::from_byte(byte);
+    let r = fragment::decode_one(version, variant, state, fragment, out);
     let given = r.answer;
     let next = r.state;
     let answer = played_answer(given);

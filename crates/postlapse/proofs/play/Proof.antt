@@ -1,4 +1,5 @@
 -- `postlapse::play` meets its contract: a byte above 2 is refused first, and else the fragment decoder answers. Assumes nothing.
+use native.Mathlib.Omega.{arith}
 use borrow.Author.Needs.{needs}
 use borrow.Author.Tests.{lt-ltb, le-ltb}
 use Rattle.format.specs.Answers.{numberOf, valuesOf}
@@ -14,7 +15,7 @@ refused-answer-requires c κs = search needs
 
 returns : tie.Need-returns
 unfolding fragmentForC numberOf valuesOf
-returns c = plays-none (met _ _ _ _ (lt-ltb _ _ (c .before .if1 .taken))) (c .refused-answer .ensures)
+returns c = plays-none (met _ _ _ _ (lt-ltb 2 (c .before .before .before .args .byte) (omega arith))) (c .refused-answer .ensures)
 
 from-byte-requires : tie.Need-from-byte-requires
 from-byte-requires c κs = search needs
@@ -30,7 +31,7 @@ same-length c = search needs
 
 returns-2 : tie.Need-returns-2
 unfolding fragmentForC called
-returns-2 c = plays-as (clear _ _ _ _ _ (le-ltb _ _ (c .before .before .before .before .before .before .if1 .left)) (rw (c .before .before .before .before .before .from-byte .ensures))) (c .played-answer .ensures) (c .before .before .before .decode-one .ensures .answered) (c .before .before .before .decode-one .ensures .state-after) (c .before .before .before .decode-one .ensures .output-after)
+returns-2 c = plays-as (clear _ _ _ _ _ (le-ltb 2 (c .before .before .before .before .before .before .before .before .args .byte) (omega arith)) (rw (c .before .before .before .before .before .from-byte .ensures))) (c .played-answer .ensures) (c .before .before .before .decode-one .ensures .answered) (c .before .before .before .decode-one .ensures .state-after) (c .before .before .before .decode-one .ensures .output-after)
 
 pub play-spec : {M : Type 1} → statement M
 play-spec =

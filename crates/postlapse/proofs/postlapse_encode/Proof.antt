@@ -1,4 +1,5 @@
 -- `postlapse::postlapse_encode` meets its contract: a byte above 2 is refused first, and else the encoder answers. Assumes nothing.
+use native.Mathlib.Omega.{arith}
 use borrow.Author.Needs.{needs}
 use borrow.Author.Tests.{lt-ltb, le-ltb}
 use Rattle.format.specs.Answers.{numberOf, valuesOf}
@@ -13,7 +14,7 @@ refused-answer-requires c κs = search needs
 
 returns : tie.Need-returns
 unfolding encodeForC numberOf valuesOf
-returns c = fills-none (met _ _ _ _ (lt-ltb _ _ (c .before .if1 .taken))) (c .refused-answer .ensures)
+returns c = fills-none (met _ _ _ _ (lt-ltb 2 (c .before .before .before .args .variant) (omega arith))) (c .refused-answer .ensures)
 
 from-byte-requires : tie.Need-from-byte-requires
 from-byte-requires c κs = search needs
@@ -29,7 +30,7 @@ same-length c = search needs
 
 returns-2 : tie.Need-returns-2
 unfolding encodeForC
-returns-2 c = fills-as (clear _ _ _ _ _ (le-ltb _ _ (c .before .before .before .before .before .before .if1 .left)) (rw (c .before .before .before .before .before .from-byte .ensures))) (c .encoded-answer .ensures) (c .before .before .before .encode-interleaved .ensures .answered) (c .before .before .before .encode-interleaved .ensures .output-after)
+returns-2 c = fills-as (clear _ _ _ _ _ (le-ltb 2 (c .before .before .before .before .before .before .before .before .args .variant) (omega arith)) (rw (c .before .before .before .before .before .from-byte .ensures))) (c .encoded-answer .ensures) (c .before .before .before .encode-interleaved .ensures .answered) (c .before .before .before .encode-interleaved .ensures .output-after)
 
 pub postlapse-encode-spec : {M : Type 1} → statement M
 postlapse-encode-spec =
