@@ -17,8 +17,9 @@ use Rattle.postlapse.specs.Answers.{answerOf, withState}
 use Rattle.postlapse.specs.Promises.{fragmentForC, Fills, Plays, PlaysByValue}
 use Rattle.postlapse.specs.declared.Answer.{Answer}
 
--- two numbers, of which all are returned
-pub two-shown : (m n k f s : ℕ) (vs : List ℕ) → m ≡ n → take k (f ∷ s ∷ []) ≡ vs → (k ≡ 0 → ⊥) → (k ≡ 1 → ⊥) → record { refusal = m; first = f; second = s } ≡ answerOf (refused n vs)
+-- a refusal that returns both of two numbers
+pub two-shown : (m n k f s : ℕ) (vs : List ℕ) → m ≡ n → take k (f ∷ s ∷ []) ≡ vs → (k ≡ 0 → ⊥) → (k ≡ 1 → ⊥)
+    → record { refusal = m; first = f; second = s } ≡ answerOf (refused n vs)
 unfolding answerOf
 two-shown m n zero f s vs e t some more = absurd (some refl)
 two-shown m n (suc zero) f s vs e t some more = absurd (more refl)
@@ -53,14 +54,17 @@ no-number StrictFormat k = refl
 no-number StrictOrder k = refl
 no-number StrictEnd k = refl
 
--- a call that refuses fills nothing
+-- ---- from an outcome to the promises
+
 module _ {A : Type 0} {o : Outcome (List A)} {out : List A} {answer : Answer} where
+  -- a call that refuses fills nothing
   pub fills-none : {n : ℕ} {vs : List ℕ} → refused n vs ≡ o → answer ≡ answerOf (refused n vs) → Fills o out answer out
   unfolding onResult outputAfter
   fills-none e a = record { answered = rw (← e) a; output-after = rw (← e) }
 
-  -- what a call below answers, read, and what it fills
-  pub fills-as : {p : Outcome (List A)} {x : Outcome ℕ} {output : List A} → p ≡ o → answer ≡ answerOf x → x ≡ onResult length p → output ≡ outputAfter p out → Fills o out answer output
+  -- the answer of the call below, read as x, and what it fills
+  pub fills-as : {p : Outcome (List A)} {x : Outcome ℕ} {output : List A} → p ≡ o → answer ≡ answerOf x → x ≡ onResult length p
+      → output ≡ outputAfter p out → Fills o out answer output
   fills-as e a w f = record { answered = cc; output-after = cc }
 
 module _ {o : Outcome DecodedFragment} {s : State} {out : List ℤ} {answer : Answer} where
@@ -68,7 +72,9 @@ module _ {o : Outcome DecodedFragment} {s : State} {out : List ℤ} {answer : An
   unfolding onResult outputAfter stateLeft
   plays-none e a = record { answered = rw (← e) a; state-after = rw (← e); output-after = rw (← e) }
 
-  pub plays-as : {p : Outcome DecodedFragment} {x : Outcome ℕ} {state : State} {output : List ℤ} → p ≡ o → answer ≡ answerOf x → x ≡ onResult (λ (r : DecodedFragment). length (r .samples)) p → state ≡ stateLeft s p → output ≡ outputAfter (onResult (λ (r : DecodedFragment). r .samples) p) out → Plays o s out answer state output
+  pub plays-as : {p : Outcome DecodedFragment} {x : Outcome ℕ} {state : State} {output : List ℤ} → p ≡ o → answer ≡ answerOf x
+      → x ≡ onResult (λ (r : DecodedFragment). length (r .samples)) p → state ≡ stateLeft s p
+      → output ≡ outputAfter (onResult (λ (r : DecodedFragment). r .samples) p) out → Plays o s out answer state output
   plays-as e a w l f = record { answered = cc; state-after = cc; output-after = cc }
 
 -- answer and state in one struct, where the call was given the state s as t

@@ -42,12 +42,12 @@ headerAnswerOf (refused n vs) =
       samples = 0;
     }
 
--- of a WAV file that was read, which no refusal returns numbers with
+-- of a WAV file: where its sample bytes lie; no refusal of reading returns numbers
 unfoldable pub waveAnswerOf : Outcome Wave → WaveAnswer
 waveAnswerOf (result w) =
     record { refusal = 0; channels = w .channels; rate = w .rate; start = w .samples .start; size = w .samples .size }
 waveAnswerOf (refused n vs) = record { refusal = n; channels = 0; rate = 0; start = 0; size = 0 }
 
--- of a count and a channel's state; the refusals of a fragment return one number at most
+-- of a count and a channel's state, in one struct; the refusals of the fragment decoder return one number at most
 abbrev pub withState : Answer → State → FragmentAnswer
 withState a s = record { refusal = a .refusal; first = a .first; predictor = s .predictor; index = s .index }
