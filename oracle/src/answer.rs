@@ -1,6 +1,7 @@
 //! The reference's answer to an input. Refusals have the numbers of the scope paper's table.
 
 use crate::input::{Input, hex, words};
+use crate::print;
 use crate::reference::sqv4::{self, Error, State, Variant};
 use crate::reference::wav::{self, PcmWave, WaveError};
 
@@ -12,11 +13,18 @@ pub enum Answer {
     Stepped(State),
     Volume(u8),
     Wave(PcmWave),
+    Printed(Vec<u8>),
 }
 
 pub struct Refusal {
     pub number: u8,
     pub values: Vec<usize>,
+}
+
+impl Refusal {
+    pub fn line(&self) -> String {
+        format!("refused {}{}\n", self.number, words(&self.values))
+    }
 }
 
 pub fn answer(input: &Input) -> Result<Answer, Refusal> {
@@ -36,6 +44,8 @@ pub fn answer(input: &Input) -> Result<Answer, Refusal> {
         }
         Input::Volume(samples) => Ok(Answer::Volume(sqv4::fragment_volume(samples))),
         Input::Wav(bytes) => Ok(Answer::Wave(wav::read_pcm16_wave(bytes)?)),
+        Input::Converter(bytes) => Ok(Answer::Printed(print::converter(bytes))),
+        Input::Inspector(bytes) => Ok(Answer::Printed(print::inspector(bytes))),
     }
 }
 
@@ -64,14 +74,17 @@ fn play(version: u8, variant: Variant, mut state: State, count: usize, bytes: &[
 /// An answer as a line of text.
 pub fn line(input: &Input) -> String {
     match answer(input) {
-        Ok(answer) => format!("result{}\n", answer_words(&answer)),
-        Err(refusal) => format!("refused {}{}\n", refusal.number, words(&refusal.values)),
+        Ok(answer) => {
+            let verb = if let Answer::Printed(_) = answer { "prints" } else { "result" };
+            format!("{verb}{}\n", answer_words(&answer))
+        }
+        Err(refusal) => refusal.line(),
     }
 }
 
 fn answer_words(answer: &Answer) -> String {
     match answer {
-        Answer::Stream(bytes) => format!(" {}", hex(bytes)),
+        Answer::Stream(bytes) | Answer::Printed(bytes) => format!(" {}", hex(bytes)),
         Answer::Header { version, variant, channels, rate, samples } => {
             format!(" {version} {variant} {channels} {rate} {samples}")
         }

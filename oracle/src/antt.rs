@@ -23,7 +23,7 @@ pub fn file(inputs: &[(usize, Input)]) -> Result<String, String> {
     let mut text = HEADER.to_string();
     for (at, (line, input)) in (1..).zip(inputs) {
         let mut words = vec![format!("vector{at} : T")];
-        words.extend(test(input).ok_or_else(|| bad_line(*line, "volume and wav have no test in antt"))?);
+        words.extend(test(input).ok_or_else(|| bad_line(*line, "no test in antt for this kind"))?);
         let test = words[1].clone();
         words[1] = format!("({test}");
         words.last_mut().unwrap().push(')');
@@ -50,7 +50,7 @@ fn test(input: &Input) -> Option<Vec<String>> {
             let call = format!("steps {version} {} {} {code}", name(*variant), state_words(*state));
             [vec![call], result(answer.ok()?)].concat()
         }
-        Input::Volume(_) | Input::Wav(_) => return None,
+        Input::Volume(_) | Input::Wav(_) | Input::Converter(_) | Input::Inspector(_) => return None,
     })
 }
 
@@ -74,7 +74,7 @@ fn result(answer: Answer) -> Vec<String> {
         Answer::Samples(samples) => integers(&samples),
         Answer::Played(state, samples) => [vec![state_words(state)], integers(&samples)].concat(),
         Answer::Stepped(state) => vec![state_words(state)],
-        Answer::Volume(_) | Answer::Wave(_) => vec![],
+        Answer::Volume(_) | Answer::Wave(_) | Answer::Printed(_) => vec![],
     }
 }
 

@@ -13,6 +13,8 @@ pub enum Input {
     Step { version: u8, variant: Variant, state: State, code: u8 },
     Volume(Vec<i16>),
     Wav(Vec<u8>),
+    Converter(Vec<u8>),
+    Inspector(Vec<u8>),
 }
 
 /// The inputs of a list, each with the number of its line. A line that begins with # is a comment.
@@ -45,6 +47,8 @@ fn parse(line: &str) -> Result<Input, String> {
         }
         ["volume", ref samples @ ..] => Ok(Input::Volume(numbers(samples)?)),
         ["wav", bytes] => Ok(Input::Wav(unhex(bytes)?)),
+        ["converter", bytes] => Ok(Input::Converter(unhex(bytes)?)),
+        ["inspector", bytes] => Ok(Input::Inspector(unhex(bytes)?)),
         _ => Err("not an input".to_string()),
     }
 }
@@ -123,8 +127,18 @@ fn numbers(words: &[&str]) -> Result<Vec<i16>, String> {
     words.iter().map(|word| number(word)).collect()
 }
 
-/// Bytes as hex digits; no bytes are written -.
+/// Bytes as `hex` or `short_hex` writes them.
 fn unhex(word: &str) -> Result<Vec<u8>, String> {
+    let Some((front, length)) = word.split_once('*') else { return digits(word) };
+    let (mut bytes, length) = (digits(front)?, number(length)?);
+    if length < bytes.len() {
+        return Err(format!("more than {length} bytes before the *"));
+    }
+    bytes.resize(length, 0);
+    Ok(bytes)
+}
+
+fn digits(word: &str) -> Result<Vec<u8>, String> {
     let fault = || format!("not hex digits, two a byte: {word:?}");
     if word == "-" {
         return Ok(Vec::new());
@@ -135,8 +149,23 @@ fn unhex(word: &str) -> Result<Vec<u8>, String> {
     (0..word.len()).step_by(2).map(|at| u8::from_str_radix(&word[at..at + 2], 16).map_err(|_| fault())).collect()
 }
 
+/// Bytes as hex digits; no bytes are written -.
 pub fn hex(bytes: &[u8]) -> String {
     if bytes.is_empty() { "-".to_string() } else { bytes.iter().map(|byte| format!("{byte:02x}")).collect() }
+}
+
+/// The same, but for more than 16 zeros at the end stands * and the length of all.
+pub fn short_hex(bytes: &[u8]) -> String {
+    let front = without_last_zeros(bytes);
+    if bytes.len() - front.len() > 16 { format!("{}*{}", hex(front), bytes.len()) } else { hex(bytes) }
+}
+
+pub fn without_last_zeros(bytes: &[u8]) -> &[u8] {
+    &bytes[..bytes.iter().rposition(|&byte| byte != 0).map_or(0, |last| last + 1)]
+}
+
+pub fn sample_bytes(samples: &[i16]) -> Vec<u8> {
+    samples.iter().flat_map(|sample| sample.to_le_bytes()).collect()
 }
 
 /// Numbers as words, each after a space.

@@ -1,6 +1,6 @@
 //! Lists of inputs. They are the same at every run: the random numbers start from a fixed seed.
 
-use crate::input::{VARIANTS, encode_line, fragment_size, frame_samples, hex, name, prefix};
+use crate::input::{VARIANTS, encode_line, fragment_size, frame_samples, hex, name, prefix, sample_bytes, short_hex};
 use crate::reference::sqv4::{self, Variant};
 
 const RATE: u32 = 8000;
@@ -15,6 +15,7 @@ pub fn list(name: &str) -> Option<String> {
         "fragments" => Some(fragments()),
         "lengths" => Some(lengths()),
         "waves" => Some(waves()),
+        "programs" => Some(programs()),
         _ => None,
     }
 }
@@ -293,8 +294,13 @@ const DAMAGES: [Damage; 10] = [
     |bytes| bytes[18] = 0x17,
 ];
 
+/// The file of the scope paper's case 3.
+fn case_3() -> Vec<u8> {
+    sqv4::encode_interleaved(&[1000], 1, RATE, Variant::H, 255).unwrap()
+}
+
 fn headers() -> String {
-    let good = sqv4::encode_interleaved(&[1000], 1, RATE, Variant::H, 255).unwrap();
+    let good = case_3();
     let mut streams = vec![good.clone()];
     streams.extend((0..=20).map(|length| good[..length].to_vec()));
     for at in 0..20 {
@@ -326,6 +332,12 @@ fn pairs(good: &[u8]) -> Vec<Vec<u8>> {
         }
     }
     streams
+}
+
+fn damaged_by(damage: Damage, good: &[u8]) -> Vec<u8> {
+    let mut bytes = good.to_vec();
+    damage(&mut bytes);
+    bytes
 }
 
 /// All the damages from each one on.
@@ -526,18 +538,24 @@ const SPOILS: [Spoil; 14] = [
     |fields| fields.byte_rate = 4 * RATE + 1,
 ];
 
+/// A stereo file with one damage of the fields.
+fn spoiled(spoil: Spoil) -> Vec<u8> {
+    let mut fields = STEREO;
+    spoil(&mut fields);
+    wave(&[&format_chunk(fields), &chunk("data", &TWO)])
+}
+
 /// Each damage of the fields, alone, and together with the next one and no data; and rates at the limits.
 fn format_damages() -> Vec<Vec<u8>> {
     let data = &chunk("data", &TWO)[..];
     let mut files = Vec::new();
     for (at, spoil) in SPOILS.iter().enumerate() {
-        let (mut alone, mut both) = (STEREO, STEREO);
-        spoil(&mut alone);
+        let mut both = STEREO;
         if let Some(next) = SPOILS.get(at + 1) {
             next(&mut both);
         }
         spoil(&mut both);
-        files.push(wave(&[&format_chunk(alone), data]));
+        files.push(spoiled(*spoil));
         files.push(wave(&[&format_chunk(both)]));
     }
     for (fields, rate) in
@@ -547,4 +565,176 @@ fn format_damages() -> Vec<Vec<u8>> {
         files.push(wave(&[&format_chunk(Fields { rate, byte_rate, ..fields }), data]));
     }
     files
+}
+
+// ---- standard input of the programs
+
+/// Each refusal that a program can print, what it accepts, and inputs as long as it takes.
+fn programs() -> String {
+    let mut random = Random::new();
+    let [below, most, above] = [65535, 65536, 65537];
+    let stream = long_stream(&mut random, most);
+    let too_long = long_sound(&mut random, Variant::H, MONO, above);
+    let wrong_and_long = changed(&too_long, 0, 3);
+    [
+        group("converter", "38, also with a wrong variant", vec![vec![], vec![0], vec![3], too_long, wrong_and_long]),
+        group("converter", "8, also with a bad WAV", wrong_variants()),
+        group("converter", "20 to 33", unreadable()),
+        group("converter", "variants, mono and stereo, gains 255, 128 and 0", sounds(&mut random, 70, &[255, 128, 0])),
+        group("converter", "no samples", sounds(&mut random, 0, &[255])),
+        group("converter", "other chunks, other rates, one frame and one sample more", other_sounds(&mut random)),
+        group("converter", "65,535 and 65,536 bytes", long_sounds(&mut random, &[below, most])),
+        group("inspector", "38, also with nothing of a stream", vec![grown(&stream, above), vec![0; above]]),
+        group("inspector", "5, 6, 7, 8, 1, 9, 2, 10, 11, 12", damaged_headers()),
+        group("inspector", "all damages from each one on", later_damages(&case_3())),
+        group("inspector", "case 3; index 88; rates 1 and 4,294,967,295", accepted_headers()),
+        group("inspector", "versions, variants, mono and stereo", streams(&mut random)),
+        group("inspector", "65,535 bytes (10) and 65,536", vec![stream[..below].to_vec(), stream]),
+    ]
+    .concat()
+}
+
+/// A comment, and a line for each input.
+fn group(program: &str, says: &str, inputs: Vec<Vec<u8>>) -> String {
+    let lines: String = inputs.iter().map(|input| format!("{program} {}\n", short_hex(input))).collect();
+    format!("# {program}: {says}\n{lines}")
+}
+
+fn grown(bytes: &[u8], length: usize) -> Vec<u8> {
+    let mut bytes = bytes.to_vec();
+    bytes.resize(length, 0);
+    bytes
+}
+
+fn to_convert(variant: u8, gain: u8, file: &[u8]) -> Vec<u8> {
+    [&[variant, gain], file].concat()
+}
+
+/// A WAV file of these samples.
+fn sound(fields: Fields, samples: &[i16]) -> Vec<u8> {
+    wave(&[&format_chunk(fields), &chunk("data", &sample_bytes(samples))])
+}
+
+fn wrong_variants() -> Vec<Vec<u8>> {
+    let good = sound(MONO, &[1000]);
+    let files = [(3, &good[..]), (255, &good), (3, b""), (255, b"R"), (3, &good[..44])];
+    files.map(|(variant, file)| to_convert(variant, 255, file)).to_vec()
+}
+
+/// Files for each refusal of the WAV reader, in the order of their numbers.
+fn unreadable() -> Vec<Vec<u8>> {
+    let (mono, stereo, data) = (&format_chunk(MONO)[..], &format_chunk(STEREO)[..], &chunk("data", &TWO)[..]);
+    let good = wave(&[mono, data]);
+    let mut files = vec![
+        vec![],
+        b"R".to_vec(),
+        good[..11].to_vec(),
+        changed(&good, 3, b'X'),
+        changed(&good, 8, b'X'),
+        riff_sized(&good, 3),
+        riff_sized(&good, 41),
+        riff_sized(&good, u32::MAX),
+        riff_sized(&[&good[..], b"LIST"].concat(), 44),
+        wave(&[mono, &sized_chunk("data", &TWO, 5)]),
+        wave(&[mono, data, mono]),
+        wave(&[&chunk("fmt ", &format_bytes(MONO, 14)), data]),
+        wave(&[mono, data, data]),
+        wave(&[data]),
+    ];
+    files.extend(SPOILS.map(spoiled));
+    files.extend([wave(&[mono]), wave(&[mono, &chunk("data", &TWO[..3])]), wave(&[stereo, &chunk("data", &TWO[..2])])]);
+    files.iter().map(|file| to_convert(0, 255, file)).collect()
+}
+
+/// Every variant, mono and stereo, at these gains.
+fn sounds(random: &mut Random, length: usize, gains: &[u8]) -> Vec<Vec<u8>> {
+    let mut inputs = Vec::new();
+    for variant in VARIANTS {
+        for fields in [MONO, STEREO] {
+            for &gain in gains {
+                let signals: Vec<_> = (0..fields.channels).map(|_| signal(random, length)).collect();
+                inputs.push(to_convert(variant as u8, gain, &sound(fields, &interleaved(&signals))));
+            }
+        }
+    }
+    inputs
+}
+
+/// Data before fmt, chunks that are passed over, a long fmt, bytes after the RIFF end, rates at the limits, and a frame's end.
+fn other_sounds(random: &mut Random) -> Vec<Vec<u8>> {
+    let (mono, data, odd) = (&format_chunk(MONO)[..], &chunk("data", &TWO)[..], &chunk("odd ", b"odd")[..]);
+    let rate = u32::MAX / 2;
+    let mut files = vec![
+        wave(&[data, mono]),
+        wave(&[odd, mono, &chunk("LIST", b"INFO"), data, odd]),
+        wave(&[&chunk("fmt ", &format_bytes(MONO, 18)), data]),
+        [&wave(&[mono, data])[..], b"?"].concat(),
+        sound(Fields { rate: 1, byte_rate: 2, ..MONO }, &[1000]),
+        sound(Fields { rate, byte_rate: 2 * rate, ..MONO }, &[1000]),
+    ];
+    files.extend([63, 64].map(|length| sound(MONO, &signal(random, length))));
+    files.iter().map(|file| to_convert(0, 255, file)).collect()
+}
+
+/// An input of a given length: a tone, silence behind it, and after the RIFF end what does not make a whole frame.
+fn long_sound(random: &mut Random, variant: Variant, fields: Fields, length: usize) -> Vec<u8> {
+    let mut samples = tone(random, 200);
+    samples.resize((length - 46) / fields.align as usize * fields.channels as usize, 0);
+    grown(&to_convert(variant as u8, 255, &sound(fields, &samples)), length)
+}
+
+fn long_sounds(random: &mut Random, lengths: &[usize]) -> Vec<Vec<u8>> {
+    let mut inputs = Vec::new();
+    for &length in lengths {
+        for (variant, fields) in [(Variant::H, MONO), (Variant::L, STEREO), (Variant::LPlus, MONO)] {
+            inputs.push(long_sound(random, variant, fields, length));
+        }
+    }
+    inputs
+}
+
+/// A version 3 stream of L fragments that fills a length: twelve random ones, then zeros. The last holds one sample.
+fn long_stream(random: &mut Random, length: usize) -> Vec<u8> {
+    let fragments = (length - 16) / fragment_size(3, Variant::L);
+    let mut bytes = header(3, Variant::L, 1, (fragments - 1) * frame_samples(3) + 1);
+    for _ in 0..12 {
+        bytes.extend(random_fragment(random, 3, Variant::L, frame_samples(3)));
+    }
+    grown(&bytes, length)
+}
+
+/// Each damage alone, other wrong bytes, other lengths, and the longest length that a header can ask for.
+fn damaged_headers() -> Vec<Vec<u8>> {
+    let good = case_3();
+    let mut inputs = DAMAGES.map(|damage| damaged_by(damage, &good)).to_vec();
+    inputs.extend([0, 1, 16, 49].map(|length| good[..length].to_vec()));
+    let bytes = [(0, b's'), (4, 0), (4, 255), (5, 255), (6, 0), (7, 255), (17, 255), (49, 1)];
+    inputs.extend(bytes.map(|(at, value)| changed(&good, at, value)));
+    inputs.push(header(3, Variant::H, 2, u32::MAX as usize));
+    inputs
+}
+
+fn accepted_headers() -> Vec<Vec<u8>> {
+    let good = case_3();
+    let mut inputs = vec![good.clone(), changed(&good, 17, 88)];
+    for rate in [1, u32::MAX] {
+        inputs.push([&good[..8], &rate.to_le_bytes(), &good[12..]].concat());
+    }
+    inputs
+}
+
+/// Every version, variant and channel count: up to one frame, and several with a short last one.
+fn streams(random: &mut Random) -> Vec<Vec<u8>> {
+    let mut inputs = Vec::new();
+    for version in 1..=3 {
+        let frame = frame_samples(version);
+        for (variant, few) in VARIANTS.into_iter().zip([0, 1, frame]) {
+            for channels in 1..=2 {
+                for samples in [few, 2 * frame + 1 + random.below(frame - 1)] {
+                    inputs.push(random_stream(random, version, variant, channels, samples));
+                }
+            }
+        }
+    }
+    inputs
 }

@@ -5,6 +5,7 @@ mod answer;
 mod antt;
 mod input;
 mod lists;
+mod print;
 mod record;
 mod search;
 
@@ -15,13 +16,14 @@ mod reference {
     include!(env!("ORACLE_WAV"));
 }
 
-use std::io::{self, Write};
+use std::io::{self, Read, Write};
 use std::process::ExitCode;
 
 const USAGE: &str = "usage: oracle/run answers < LIST
        oracle/run antt < LIST
        oracle/run record < LIST
-       oracle/run inputs matrix|edges|decode|headers|steps|fragments|lengths|waves|search";
+       oracle/run print converter|inspector < INPUT
+       oracle/run inputs matrix|edges|decode|headers|steps|fragments|lengths|waves|programs|search";
 
 fn main() -> ExitCode {
     match run().and_then(|output| io::stdout().write_all(&output).map_err(|error| error.to_string())) {
@@ -41,6 +43,8 @@ fn run() -> Result<Vec<u8>, String> {
         ["answers"] => Ok(read_list()?.iter().flat_map(|(_, input)| answer::line(input).into_bytes()).collect()),
         ["antt"] => antt::file(&read_list()?).map(String::into_bytes),
         ["record"] => record::file(&read_list()?),
+        ["print", "converter"] => Ok(print::converter(&read_bytes()?)),
+        ["print", "inspector"] => Ok(print::inspector(&read_bytes()?)),
         ["inputs", "search"] => Ok(search::list().into_bytes()),
         ["inputs", name] => lists::list(name).map(String::into_bytes).ok_or(USAGE.to_string()),
         _ => Err(USAGE.to_string()),
@@ -50,4 +54,10 @@ fn run() -> Result<Vec<u8>, String> {
 fn read_list() -> Result<Vec<(usize, input::Input)>, String> {
     let text = io::read_to_string(io::stdin()).map_err(|error| error.to_string())?;
     input::read(&text)
+}
+
+fn read_bytes() -> Result<Vec<u8>, String> {
+    let mut bytes = Vec::new();
+    io::stdin().read_to_end(&mut bytes).map_err(|error| error.to_string())?;
+    Ok(bytes)
 }

@@ -1,10 +1,11 @@
 //! A list's inputs with the reference's answers, as bytes: the data of crates/replay. README.md has the layout.
 
 use crate::answer::{self, Answer, Refusal};
-use crate::input::{Input, bad_line};
+use crate::input::{Input, bad_line, sample_bytes, without_last_zeros};
 
-/// The bytes that a question or an answer may have in crates/replay.
-const MOST: usize = 2048;
+/// The bytes that a question and an answer may have in crates/replay.
+const MOST_QUESTION: usize = 65538;
+const MOST_ANSWER: usize = 327680;
 
 pub fn file(inputs: &[(usize, Input)]) -> Result<Vec<u8>, String> {
     let records: Result<Vec<_>, _> =
@@ -15,14 +16,16 @@ pub fn file(inputs: &[(usize, Input)]) -> Result<Vec<u8>, String> {
 fn record(input: &Input) -> Result<Vec<u8>, &'static str> {
     let question = question(input)?;
     let answer = match answer::answer(input) {
+        Ok(Answer::Printed(bytes)) => bytes,
         Ok(answer) => result(&answer),
         Err(refusal) => refused(&refusal),
     };
-    if question.len() > MOST || answer.len() > MOST {
-        return Err("too long for a record");
+    if question.len() > MOST_QUESTION || answer.len() > MOST_ANSWER {
+        return Err("too long: a record's question has at most 65,538 bytes, its answer 327,680");
     }
-    let sizes = [question.len(), answer.len()].map(|size| (size as u16).to_le_bytes());
-    Ok([sizes.concat(), question, answer].concat())
+    let (asked, said) = (without_last_zeros(&question), without_last_zeros(&answer));
+    let sizes = [question.len(), asked.len(), answer.len(), said.len()].map(|size| (size as u32).to_le_bytes());
+    Ok([&sizes.concat(), asked, said].concat())
 }
 
 fn question(input: &Input) -> Result<Vec<u8>, &'static str> {
@@ -36,6 +39,8 @@ fn question(input: &Input) -> Result<Vec<u8>, &'static str> {
         Input::Inspect(stream) => Ok([&[2], &stream[..]].concat()),
         Input::Decode(stream) => Ok([&[3], &stream[..]].concat()),
         Input::Wav(file) => Ok([&[4], &file[..]].concat()),
+        Input::Converter(bytes) => Ok([&[5], &bytes[..]].concat()),
+        Input::Inspector(bytes) => Ok([&[6], &bytes[..]].concat()),
         _ => Err("no record of this kind"),
     }
 }
@@ -64,8 +69,4 @@ fn result(answer: &Answer) -> Vec<u8> {
         _ => unreachable!("only encoding, inspection, decoding and WAV reading are recorded"),
     }
     bytes
-}
-
-fn sample_bytes(samples: &[i16]) -> Vec<u8> {
-    samples.iter().flat_map(|sample| sample.to_le_bytes()).collect()
 }
