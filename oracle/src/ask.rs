@@ -95,20 +95,22 @@ fn rooms<T>(random: &mut Random, result: &Result<Vec<T>, Refusal>) -> Vec<usize>
     }
 }
 
-/// Holds an answer and an output against what they must be.
+/// Holds an answer and an output against what they must be, and says whether they are that.
 fn judge<T: Place>(
     tally: &mut Tally,
     call: &'static str,
     (expected, values): (Numbers, &[T]),
     (answer, places): (Numbers, &[T]),
     line: impl FnOnce() -> String,
-) {
-    let (same, held) = (answer == expected, hold(places, values));
-    let room = places.len() - 2 * AROUND;
-    tally.count(call, expected[0] as usize, same && held, || {
+) -> bool {
+    let held = hold(places, values);
+    let same = held && answer == expected;
+    tally.count(call, expected[0] as usize, same, || {
+        let room = places.len() - 2 * AROUND;
         let output = if held { "as expected" } else { "NOT as expected" };
         (format!("{call}, room {room}: answered {answer:?}, expected {expected:?}; output {output}"), line())
     });
+    same
 }
 
 /// A call that answers a count and writes so many values.
@@ -266,12 +268,16 @@ impl Channels {
         };
         let due = both(expected, self.reference);
         let said = both(numbers(&[answer.refusal, answer.first]), self.carried);
-        judge(tally, "fragment", (due, values), (said, &places), &line);
+        let same = judge(tally, "fragment", (due, values), (said, &places), &line);
 
         let state = &mut self.lent[channel];
         let (answer, places) = lend(count, |out| ours::decode_fragment_lent(version, variant, state, bytes, out));
         let lent = self.lent.each_ref().map(|state| State { predictor: state.predictor, index: state.index });
-        judge(tally, "fragment lent", (due, values), (both(answered(answer), lent), &places), &line);
+        let said = both(answered(answer), lent);
+        if !(judge(tally, "fragment lent", (due, values), (said, &places), &line) && same) {
+            // The calls that follow are not to blame.
+            *self = Channels::new(self.reference);
+        }
     }
 }
 

@@ -41,6 +41,7 @@ fn main() -> ExitCode {
         return ExitCode::from(2);
     }
     let (n, seed) = (*arguments.first().unwrap_or(&100_000), *arguments.get(1).unwrap_or(&1));
+    let _ = std::fs::remove_file(DIFFERS);
     let tally = compare(n, seed);
     print!("{}", tally.report());
     if tally.differ() > 0 {
