@@ -16,6 +16,7 @@ pub enum Answer {
     Printed(Vec<u8>),
 }
 
+#[derive(Clone)]
 pub struct Refusal {
     pub number: u8,
     pub values: Vec<usize>,

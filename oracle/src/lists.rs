@@ -3,7 +3,7 @@
 use crate::input::{VARIANTS, encode_line, fragment_size, frame_samples, hex, name, prefix, sample_bytes, short_hex};
 use crate::reference::sqv4::{self, Variant};
 
-const RATE: u32 = 8000;
+pub const RATE: u32 = 8000;
 
 pub fn list(name: &str) -> Option<String> {
     match name {
@@ -22,15 +22,15 @@ pub fn list(name: &str) -> Option<String> {
 
 // ---- random numbers and signals
 
-/// Marsaglia's xorshift generator of 64 bits.
-struct Random(u64);
+/// Marsaglia's xorshift generator of 64 bits, which may start anywhere but at 0.
+pub struct Random(pub u64);
 
 impl Random {
     fn new() -> Self {
         Random(0x5351_5634_2545_F491)
     }
 
-    fn next(&mut self) -> u64 {
+    pub fn next(&mut self) -> u64 {
         self.0 ^= self.0 << 13;
         self.0 ^= self.0 >> 7;
         self.0 ^= self.0 << 17;
@@ -38,26 +38,26 @@ impl Random {
     }
 
     /// A number below `end`.
-    fn below(&mut self, end: usize) -> usize {
+    pub fn below(&mut self, end: usize) -> usize {
         (self.next() % end as u64) as usize
     }
 
-    fn byte(&mut self) -> u8 {
+    pub fn byte(&mut self) -> u8 {
         self.below(256) as u8
     }
 
     /// A number in -most..=most.
-    fn around(&mut self, most: i32) -> i32 {
+    pub fn around(&mut self, most: i32) -> i32 {
         self.below(2 * most as usize + 1) as i32 - most
     }
 
-    fn sample(&mut self) -> i16 {
+    pub fn sample(&mut self) -> i16 {
         self.below(65536) as u16 as i16
     }
 }
 
 /// A decaying tone that is struck again every 37 samples, as a voice is: a resonator in whole numbers.
-fn tone(random: &mut Random, length: usize) -> Vec<i16> {
+pub fn tone(random: &mut Random, length: usize) -> Vec<i16> {
     let turn = 20000 + random.below(11000) as i32;
     let loudness = 1000 + random.below(12000) as i32;
     let (mut last, mut before) = (0, 0);
@@ -71,12 +71,12 @@ fn tone(random: &mut Random, length: usize) -> Vec<i16> {
         .collect()
 }
 
-fn noise(random: &mut Random, length: usize) -> Vec<i16> {
+pub fn noise(random: &mut Random, length: usize) -> Vec<i16> {
     let most = [200, 3000, 32767][random.below(3)];
     (0..length).map(|_| random.around(most) as i16).collect()
 }
 
-fn full_scale(random: &mut Random, length: usize) -> Vec<i16> {
+pub fn full_scale(random: &mut Random, length: usize) -> Vec<i16> {
     (0..length).map(|_| [-32768, 32767, -32767, 0][random.below(4)]).collect()
 }
 
@@ -85,7 +85,7 @@ fn small(random: &mut Random, length: usize) -> Vec<i16> {
 }
 
 /// One channel: one of the signals, or four of them one after the other.
-fn signal(random: &mut Random, length: usize) -> Vec<i16> {
+pub fn signal(random: &mut Random, length: usize) -> Vec<i16> {
     const SIGNALS: [fn(&mut Random, usize) -> Vec<i16>; 4] = [tone, noise, full_scale, small];
     match random.below(5) {
         4 if length > 0 => {
@@ -101,7 +101,7 @@ fn signal(random: &mut Random, length: usize) -> Vec<i16> {
 }
 
 /// The channels' samples in turn.
-fn interleaved(channels: &[Vec<i16>]) -> Vec<i16> {
+pub fn interleaved(channels: &[Vec<i16>]) -> Vec<i16> {
     (0..channels[0].len()).flat_map(|at| channels.iter().map(move |channel| channel[at])).collect()
 }
 
@@ -176,14 +176,14 @@ fn lengths() -> String {
 // ---- streams
 
 /// The header of a stream.
-fn header(version: u8, variant: Variant, channels: u8, samples: usize) -> Vec<u8> {
+pub fn header(version: u8, variant: Variant, channels: u8, samples: usize) -> Vec<u8> {
     let mut bytes = sqv4::header_bytes(variant, channels, RATE, samples as u32).to_vec();
     bytes[4] = version;
     bytes
 }
 
 /// A fragment of random codes for `count` samples. Volumes 0 and 255 come as often as all the others together.
-fn random_fragment(random: &mut Random, version: u8, variant: Variant, count: usize) -> Vec<u8> {
+pub fn random_fragment(random: &mut Random, version: u8, variant: Variant, count: usize) -> Vec<u8> {
     let mut bytes = vec![0; fragment_size(version, variant)];
     bytes[0] = [0, 255, random.byte(), random.byte()][random.below(4)];
     if version == 3 {
@@ -195,7 +195,7 @@ fn random_fragment(random: &mut Random, version: u8, variant: Variant, count: us
     bytes
 }
 
-fn random_stream(random: &mut Random, version: u8, variant: Variant, channels: u8, samples: usize) -> Vec<u8> {
+pub fn random_stream(random: &mut Random, version: u8, variant: Variant, channels: u8, samples: usize) -> Vec<u8> {
     let mut bytes = header(version, variant, channels, samples);
     for first in (0..samples).step_by(frame_samples(version)) {
         let count = (samples - first).min(frame_samples(version));
@@ -295,7 +295,7 @@ const DAMAGES: [Damage; 10] = [
 ];
 
 /// The file of the scope paper's case 3.
-fn case_3() -> Vec<u8> {
+pub fn case_3() -> Vec<u8> {
     sqv4::encode_interleaved(&[1000], 1, RATE, Variant::H, 255).unwrap()
 }
 
@@ -314,7 +314,7 @@ fn headers() -> String {
     streams.iter().map(|bytes| format!("inspect {}\n", hex(bytes))).collect()
 }
 
-fn changed(stream: &[u8], at: usize, value: u8) -> Vec<u8> {
+pub fn changed(stream: &[u8], at: usize, value: u8) -> Vec<u8> {
     let mut bytes = stream.to_vec();
     bytes[at] = value;
     bytes
@@ -375,23 +375,23 @@ fn fragment_damages() -> Vec<Vec<u8>> {
 
 /// The fields of a fmt chunk.
 #[derive(Clone, Copy)]
-struct Fields {
-    encoding: u16,
-    channels: u16,
-    rate: u32,
-    byte_rate: u32,
-    align: u16,
-    bits: u16,
+pub struct Fields {
+    pub encoding: u16,
+    pub channels: u16,
+    pub rate: u32,
+    pub byte_rate: u32,
+    pub align: u16,
+    pub bits: u16,
 }
 
-const MONO: Fields = Fields { encoding: 1, channels: 1, rate: RATE, byte_rate: 2 * RATE, align: 2, bits: 16 };
-const STEREO: Fields = Fields { channels: 2, byte_rate: 4 * RATE, align: 4, ..MONO };
+pub const MONO: Fields = Fields { encoding: 1, channels: 1, rate: RATE, byte_rate: 2 * RATE, align: 2, bits: 16 };
+pub const STEREO: Fields = Fields { channels: 2, byte_rate: 4 * RATE, align: 4, ..MONO };
 
 /// Two samples of one channel, or one of two.
 const TWO: [u8; 4] = [1, 0, 0, 128];
 
 /// The contents of a fmt chunk: the fields, and zeros up to a size. A smaller size cuts them.
-fn format_bytes(fields: Fields, size: usize) -> Vec<u8> {
+pub fn format_bytes(fields: Fields, size: usize) -> Vec<u8> {
     let Fields { encoding, channels, rate, byte_rate, align, bits } = fields;
     let mut bytes = [encoding.to_le_bytes(), channels.to_le_bytes()].concat();
     bytes.extend([rate.to_le_bytes(), byte_rate.to_le_bytes()].concat());
@@ -401,27 +401,27 @@ fn format_bytes(fields: Fields, size: usize) -> Vec<u8> {
 }
 
 /// A chunk that says a size. There is a pad byte after odd contents.
-fn sized_chunk(letters: &str, contents: &[u8], size: u32) -> Vec<u8> {
+pub fn sized_chunk(letters: &str, contents: &[u8], size: u32) -> Vec<u8> {
     let pad = vec![0; contents.len() % 2];
     [letters.as_bytes(), &size.to_le_bytes(), contents, &pad].concat()
 }
 
-fn chunk(letters: &str, contents: &[u8]) -> Vec<u8> {
+pub fn chunk(letters: &str, contents: &[u8]) -> Vec<u8> {
     sized_chunk(letters, contents, contents.len() as u32)
 }
 
-fn format_chunk(fields: Fields) -> Vec<u8> {
+pub fn format_chunk(fields: Fields) -> Vec<u8> {
     chunk("fmt ", &format_bytes(fields, 16))
 }
 
 /// A file of these chunks, which ends at the RIFF end.
-fn wave(chunks: &[&[u8]]) -> Vec<u8> {
+pub fn wave(chunks: &[&[u8]]) -> Vec<u8> {
     let body = chunks.concat();
     [b"RIFF", &(body.len() as u32 + 4).to_le_bytes()[..], b"WAVE", &body].concat()
 }
 
 /// A file with another RIFF size.
-fn riff_sized(file: &[u8], size: u32) -> Vec<u8> {
+pub fn riff_sized(file: &[u8], size: u32) -> Vec<u8> {
     [&file[..4], &size.to_le_bytes(), &file[8..]].concat()
 }
 
@@ -518,10 +518,10 @@ fn cut_chunks() -> Vec<Vec<u8>> {
     files
 }
 
-type Spoil = fn(&mut Fields);
+pub type Spoil = fn(&mut Fields);
 
 /// Damages of the fmt chunk's fields in the order of the checks.
-const SPOILS: [Spoil; 14] = [
+pub const SPOILS: [Spoil; 14] = [
     |fields| fields.encoding = 3,
     |fields| fields.encoding = 0xFFFE,
     |fields| fields.bits = 8,

@@ -111,7 +111,8 @@ pub fn fragment_size(version: u8, variant: Variant) -> usize
     variant.legacy_fragment_size()
 }
 
-// A channel's decoder state.
+// A channel's decoder state, laid out for C.
+#[repr(C)]
 pub struct State {
     pub predictor: i32,
     pub index: usize,

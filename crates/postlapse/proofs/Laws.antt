@@ -1,0 +1,84 @@
+-- What the proofs of the calls cite. Assumes nothing.
+use mathlib.Core.Path.{_≡_, refl}
+use Prim.Native.Nat.{ℕ, zero, suc}
+use mathlib.Core.List.{List, [], _∷_}
+use lib.IntN.{ℤ}
+use lib.ListN.{length, take}
+use types.Run.{OneOf, miss}
+use denote.Enum.Declared.{tagOf}
+use Rattle.outcome.specs.Outcome.{Outcome, refused, onResult, outputAfter}
+use Rattle.format.specs.Decode.{DecodedFragment, stateLeft}
+use Rattle.format.specs.declared.State.{State}
+use Rattle.wav.specs.Answers.{valuesOf}
+use Rattle.wav.specs.declared.WaveError.{WaveError}
+use Rattle.wav.specs.declared.WaveError.the-variants.{NotWave, RiffEnd, ChunkHeader, ChunkEnd, FormatChunk, DataChunk, NoFormat, Encoding, Channels, ZeroRate, ByteRate, Inconsistent, NoData, PartialFrame, WriterChannels, DataSize, RiffSize, WriterByteRate, OutputTooShort, StrictFormat, StrictOrder, StrictEnd}
+use Rattle.wav.proofs.WaveError as W
+use Rattle.postlapse.specs.Answers.{answerOf, withState}
+use Rattle.postlapse.specs.Promises.{fragmentForC, Fills, Plays, PlaysByValue}
+use Rattle.postlapse.specs.declared.Answer.{Answer}
+
+-- a refusal that returns both of two numbers
+pub two-shown : (m n k f s : ℕ) (vs : List ℕ) → m ≡ n → take k (f ∷ s ∷ []) ≡ vs → (k ≡ 0 → ⊥) → (k ≡ 1 → ⊥)
+    → record { refusal = m; first = f; second = s } ≡ answerOf (refused n vs)
+unfolding answerOf
+two-shown m n zero f s vs e t some more = absurd (some refl)
+two-shown m n (suc zero) f s vs e t some more = absurd (more refl)
+two-shown m n (suc (suc k)) f s vs e t some more = rw (e, ← t)
+
+-- the tags of the causes of a WAV refusal but 18, the output too short: none of them returns a number
+abbrev others : List ℕ
+others = 0 ∷ 1 ∷ 2 ∷ 3 ∷ 4 ∷ 5 ∷ 6 ∷ 7 ∷ 8 ∷ 9 ∷ 10 ∷ 11 ∷ 12 ∷ 13 ∷ 14 ∷ 15 ∷ 16 ∷ 17 ∷ 19 ∷ 20 ∷ 21 ∷ []
+
+pub no-number : (e : WaveError) → OneOf others (tagOf W.the-type e) → valuesOf e ≡ []
+unfolding valuesOf
+no-number NotWave k = refl
+no-number RiffEnd k = refl
+no-number ChunkHeader k = refl
+no-number ChunkEnd k = refl
+no-number FormatChunk k = refl
+no-number DataChunk k = refl
+no-number NoFormat k = refl
+no-number Encoding k = refl
+no-number Channels k = refl
+no-number ZeroRate k = refl
+no-number ByteRate k = refl
+no-number Inconsistent k = refl
+no-number NoData k = refl
+no-number PartialFrame k = refl
+no-number WriterChannels k = refl
+no-number DataSize k = refl
+no-number RiffSize k = refl
+no-number WriterByteRate k = refl
+no-number (OutputTooShort n) k = absurd (miss others 18 tt k)
+no-number StrictFormat k = refl
+no-number StrictOrder k = refl
+no-number StrictEnd k = refl
+
+-- ---- from an outcome to the promises
+
+module _ {A : Type 0} {o : Outcome (List A)} {out : List A} {answer : Answer} where
+  -- a call that refuses fills nothing
+  pub fills-none : {n : ℕ} {vs : List ℕ} → refused n vs ≡ o → answer ≡ answerOf (refused n vs) → Fills o out answer out
+  unfolding onResult outputAfter
+  fills-none e a = record { answered = rw (← e) a; output-after = rw (← e) }
+
+  -- the answer of the call below, read as x, and what it fills
+  pub fills-as : {p : Outcome (List A)} {x : Outcome ℕ} {output : List A} → p ≡ o → answer ≡ answerOf x → x ≡ onResult length p
+      → output ≡ outputAfter p out → Fills o out answer output
+  fills-as e a w f = record { answered = cc; output-after = cc }
+
+module _ {o : Outcome DecodedFragment} {s : State} {out : List ℤ} {answer : Answer} where
+  pub plays-none : {n : ℕ} {vs : List ℕ} → refused n vs ≡ o → answer ≡ answerOf (refused n vs) → Plays o s out answer s out
+  unfolding onResult outputAfter stateLeft
+  plays-none e a = record { answered = rw (← e) a; state-after = rw (← e); output-after = rw (← e) }
+
+  pub plays-as : {p : Outcome DecodedFragment} {x : Outcome ℕ} {state : State} {output : List ℤ} → p ≡ o → answer ≡ answerOf x
+      → x ≡ onResult (λ (r : DecodedFragment). length (r .samples)) p → state ≡ stateLeft s p
+      → output ≡ outputAfter (onResult (λ (r : DecodedFragment). r .samples) p) out → Plays o s out answer state output
+  plays-as e a w l f = record { answered = cc; state-after = cc; output-after = cc }
+
+-- answer and state in one struct, where the call was given the state s as t
+pub plays-by-value : (version variant : ℕ) (fragment : List ℕ) {s t next : State} {out output : List ℤ} {answer : Answer} → t ≡ s
+    → Plays (fragmentForC version variant t fragment (length out)) t out answer next output
+    → PlaysByValue (fragmentForC version variant s fragment (length out)) s out (withState answer next) output
+plays-by-value version variant fragment e p = record { answered = rw (← e, p .answered, p .state-after); output-after = rw (← e) (p .output-after) }

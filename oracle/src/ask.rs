@@ -1,0 +1,355 @@
+//! The calls of the C interface, each asked and held against what it must answer: what the reference answers, or the scope
+//! paper where the reference has no such call or no such refusal.
+
+use crate::answer::{self, Answer, Refusal};
+use crate::convert;
+use crate::input::{Input, fragment_size, frame_samples, hex, name, words};
+use crate::lists::Random;
+use crate::postlapse as ours;
+use crate::reference::sqv4::{self, State, Variant};
+use crate::reference::wav;
+use crate::tally::Tally;
+use std::path::Path;
+
+/// The numbers of an answer in the order of its struct, the refusal first, and zeros behind them.
+type Numbers = [i64; 8];
+
+fn numbers(values: &[usize]) -> Numbers {
+    let mut all = [0; 8];
+    all.iter_mut().zip(values).for_each(|(place, value)| *place = *value as i64);
+    all
+}
+
+fn refused(refusal: &Refusal) -> Numbers {
+    numbers(&[&[refusal.number as usize], &refusal.values[..]].concat())
+}
+
+fn answered(answer: ours::Answer) -> Numbers {
+    numbers(&[answer.refusal, answer.first, answer.second])
+}
+
+fn header_answered(answer: ours::HeaderAnswer) -> Numbers {
+    let ours::HeaderAnswer { refusal, first, second, version, variant, channels, rate, samples } = answer;
+    let bytes = [version, variant, channels].map(usize::from);
+    numbers(&[refusal, first, second, bytes[0], bytes[1], bytes[2], rate as usize, samples as usize])
+}
+
+fn wave_answered(answer: ours::WaveAnswer) -> Numbers {
+    let ours::WaveAnswer { refusal, channels, rate, start, size } = answer;
+    numbers(&[refusal, channels as usize, rate as usize, start, size])
+}
+
+// ---- outputs
+
+/// An element of an output, and what stands in it before a call.
+trait Place: Copy + PartialEq {
+    fn before(at: usize) -> Self;
+}
+
+impl Place for u8 {
+    fn before(at: usize) -> u8 {
+        (at * 167 + 91) as u8
+    }
+}
+
+impl Place for i16 {
+    fn before(at: usize) -> i16 {
+        (at * 40503 + 12345) as i16
+    }
+}
+
+/// So many places before and after each output, which no call may touch.
+const AROUND: usize = 9;
+
+/// Calls with an output of `room` places, and gives the answer and all places after the call.
+fn lend<T: Place, A>(room: usize, call: impl FnOnce(&mut [T]) -> A) -> (A, Vec<T>) {
+    let mut places: Vec<T> = (0..room + 2 * AROUND).map(T::before).collect();
+    let answer = call(&mut places[AROUND..AROUND + room]);
+    (answer, places)
+}
+
+/// The values are at the front of the output, and every other place is as it was.
+fn hold<T: Place>(places: &[T], values: &[T]) -> bool {
+    let end = AROUND + values.len();
+    let untouched = |at: usize| places[at] == T::before(at);
+    places[AROUND..end] == *values && (0..AROUND).all(untouched) && (end..places.len()).all(untouched)
+}
+
+/// A result needs its length of places; else the scope paper's 13.
+fn in_room<T>(result: &Result<Vec<T>, Refusal>, room: usize) -> Result<&[T], Refusal> {
+    match result {
+        Ok(values) if room < values.len() => Err(Refusal { number: 13, values: vec![values.len()] }),
+        Ok(values) => Ok(values),
+        Err(refusal) => Err(refusal.clone()),
+    }
+}
+
+/// Rooms to ask a result in: one that suffices, and one that does not where there is one. A refusal is asked in any.
+fn rooms<T>(random: &mut Random, result: &Result<Vec<T>, Refusal>) -> Vec<usize> {
+    match result.as_ref().map_or(0, Vec::len) {
+        0 => vec![random.below(80)],
+        length => vec![
+            length + [0, 1, random.below(70)][random.below(3)],
+            [0, length - 1, random.below(length)][random.below(3)],
+        ],
+    }
+}
+
+/// Holds an answer and an output against what they must be, and says whether they are that.
+fn judge<T: Place>(
+    tally: &mut Tally,
+    call: &'static str,
+    (expected, values): (Numbers, &[T]),
+    (answer, places): (Numbers, &[T]),
+    line: impl FnOnce() -> String,
+) -> bool {
+    let held = hold(places, values);
+    let same = held && answer == expected;
+    tally.count(call, expected[0] as usize, same, || {
+        let room = places.len() - 2 * AROUND;
+        let output = if held { "as expected" } else { "NOT as expected" };
+        (format!("{call}, room {room}: answered {answer:?}, expected {expected:?}; output {output}"), line())
+    });
+    same
+}
+
+/// A call that answers a count and writes so many values.
+fn ask_filled<T: Place>(
+    (tally, random): (&mut Tally, &mut Random),
+    call: &'static str,
+    result: &Result<Vec<T>, Refusal>,
+    ask: impl Fn(&mut [T]) -> ours::Answer,
+    line: impl Fn() -> String,
+) {
+    for room in rooms(random, result) {
+        let (answer, places) = lend(room, &ask);
+        let expected = match in_room(result, room) {
+            Ok(values) => (numbers(&[0, values.len()]), values),
+            Err(refusal) => (refused(&refusal), &[][..]),
+        };
+        judge(tally, call, expected, (answered(answer), &places), &line);
+    }
+}
+
+/// A call that writes nothing.
+fn ask_plain(
+    tally: &mut Tally,
+    call: &'static str,
+    expected: Numbers,
+    answer: Numbers,
+    line: impl FnOnce() -> String,
+) {
+    judge::<u8>(tally, call, (expected, &[]), (answer, &lend(0, |_| ()).1), line);
+}
+
+// ---- streams
+
+pub struct Sound<'a> {
+    pub variant: u8,
+    pub gain: u8,
+    pub channels: u8,
+    pub rate: u32,
+    pub samples: &'a [i16],
+}
+
+/// Asks the encoder, and gives the reference's stream.
+pub fn encode(tally: &mut Tally, random: &mut Random, sound: &Sound) -> Option<Vec<u8>> {
+    let Sound { variant, gain, channels, rate, samples } = *sound;
+    let result = Variant::try_from(variant)
+        .and_then(|variant| sqv4::encode_interleaved(samples, channels, rate, variant, gain))
+        .map_err(Refusal::from);
+    let ask = |out: &mut [u8]| ours::encode(samples, channels, rate, variant, gain, out);
+    let line = || format!("encode {} {gain} {channels} {rate}{}", variant_word(variant), words(samples));
+    ask_filled((tally, random), "encode", &result, ask, line);
+    result.ok()
+}
+
+/// The variant's name, or its byte where it has none.
+fn variant_word(byte: u8) -> String {
+    Variant::try_from(byte).map_or(byte.to_string(), |variant| name(variant).to_string())
+}
+
+/// Asks inspection and the decoder.
+pub fn stream(tally: &mut Tally, random: &mut Random, bytes: &[u8]) {
+    let header = sqv4::inspect(bytes).map_err(Refusal::from).map(|header| {
+        let sqv4::Header { version, variant, channels, sample_rate, samples_per_channel, .. } = header;
+        let bytes = [version, variant as u8, channels].map(usize::from);
+        numbers(&[0, 0, 0, bytes[0], bytes[1], bytes[2], sample_rate as usize, samples_per_channel])
+    });
+    let inspected = header.clone().unwrap_or_else(|refusal| refused(&refusal));
+    let answer = header_answered(ours::inspect(bytes));
+    ask_plain(tally, "inspect", inspected, answer, || format!("inspect {}", hex(bytes)));
+
+    let samples = sqv4::decode(bytes).map_err(Refusal::from).map(|audio| audio.samples);
+    for room in rooms(random, &samples) {
+        let (answer, places) = lend(room, |out| ours::decode(bytes, out));
+        let expected = match in_room(&samples, room) {
+            Ok(values) => (inspected, values),
+            Err(refusal) => (refused(&refusal), &[][..]),
+        };
+        judge(tally, "decode", expected, (header_answered(answer), &places), || format!("decode {}", hex(bytes)));
+    }
+}
+
+// ---- fragments
+
+#[derive(Clone, Copy)]
+pub struct Fragment<'a> {
+    pub version: u8,
+    pub variant: u8,
+    pub bytes: &'a [u8],
+    pub count: usize,
+}
+
+/// What one fragment comes to from a state. The refusals are the scope paper's; the reference's decoders have none.
+fn played(fragment: Fragment, state: State) -> Result<(State, Vec<i16>), Refusal> {
+    let Fragment { version, variant, bytes, count } = fragment;
+    let refusal = |number, values| Err(Refusal { number, values });
+    let variant = Variant::try_from(variant)?;
+    if !(1..=3).contains(&version) {
+        return refusal(7, vec![version as usize]);
+    }
+    if bytes.len() != fragment_size(version, variant) || count > frame_samples(version) {
+        return refusal(14, vec![]);
+    }
+    if version != 3 && (i16::try_from(state.predictor).is_err() || state.index > 88) {
+        return refusal(15, vec![]);
+    }
+    match answer::answer(&Input::Fragment { version, variant, state, count, bytes: bytes.to_vec() })? {
+        Answer::Played(state, samples) => Ok((state, samples)),
+        _ => unreachable!("a fragment is played"),
+    }
+}
+
+/// The states of two channels: the reference's, ours by value, and ours in memory that is lent.
+pub struct Channels {
+    reference: [State; 2],
+    carried: [State; 2],
+    lent: [ours::State; 2],
+}
+
+fn lendable(state: State) -> ours::State {
+    ours::State { predictor: state.predictor, index: state.index }
+}
+
+fn state_numbers(states: [State; 2]) -> [i64; 4] {
+    let [left, right] = states.map(|state| [state.predictor as i64, state.index as i64]);
+    [left[0], left[1], right[0], right[1]]
+}
+
+impl Channels {
+    pub fn new(states: [State; 2]) -> Self {
+        Channels { reference: states, carried: states, lent: states.map(lendable) }
+    }
+
+    /// Asks both fragment decoders, from one channel's state. After the call both channels' states are compared.
+    pub fn play(&mut self, tally: &mut Tally, channel: usize, fragment: Fragment) {
+        let Fragment { version, variant, bytes, count } = fragment;
+        let before = self.reference[channel];
+        let result = played(fragment, before);
+        let (expected, values) = match &result {
+            Ok((state, samples)) => {
+                self.reference[channel] = *state;
+                (numbers(&[0, count]), &samples[..])
+            }
+            Err(refusal) => (refused(refusal), &[][..]),
+        };
+        let line = || {
+            let State { predictor, index } = before;
+            format!("fragment {version} {} {predictor} {index} {count} {}", variant_word(variant), hex(bytes))
+        };
+
+        let state = lendable(self.carried[channel]);
+        let (answer, places) = lend(count, |out| ours::decode_fragment(version, variant, state, bytes, out));
+        self.carried[channel] = State { predictor: answer.predictor, index: answer.index };
+        let both = |mut call: Numbers, states| {
+            call[4..].copy_from_slice(&state_numbers(states));
+            call
+        };
+        let due = both(expected, self.reference);
+        let said = both(numbers(&[answer.refusal, answer.first]), self.carried);
+        let same = judge(tally, "fragment", (due, values), (said, &places), &line);
+
+        let state = &mut self.lent[channel];
+        let (answer, places) = lend(count, |out| ours::decode_fragment_lent(version, variant, state, bytes, out));
+        let lent = self.lent.each_ref().map(|state| State { predictor: state.predictor, index: state.index });
+        let said = both(answered(answer), lent);
+        if !(judge(tally, "fragment lent", (due, values), (said, &places), &line) && same) {
+            // The calls that follow are not to blame.
+            *self = Channels::new(self.reference);
+        }
+    }
+}
+
+// ---- WAV files
+
+/// What the strict reader looks at in a file that the reference accepts.
+struct Layout {
+    format: usize,
+    format_size: usize,
+    data: usize,
+    data_size: usize,
+    end: usize,
+}
+
+fn layout(file: &[u8]) -> Layout {
+    let field = |at: usize| u32::from_le_bytes(file[at..at + 4].try_into().unwrap()) as usize;
+    let mut layout = Layout { format: 0, format_size: 0, data: 0, data_size: 0, end: field(4) + 8 };
+    let mut at = 12;
+    while at < layout.end {
+        let (start, size) = (at + 8, field(at + 4));
+        match &file[at..at + 4] {
+            b"fmt " => (layout.format, layout.format_size) = (start, size),
+            b"data" => (layout.data, layout.data_size) = (start, size),
+            _ => {}
+        }
+        at = start + size + size % 2;
+    }
+    layout
+}
+
+/// The scope paper's checks of a file that plain reading accepts.
+fn strict_refusal(file: &[u8], layout: &Layout) -> usize {
+    match () {
+        _ if layout.format_size != 16 => 40,
+        _ if layout.data < layout.format => 41,
+        _ if layout.end < file.len() => 42,
+        _ => 0,
+    }
+}
+
+/// Asks both readers, and loads the samples of a file that is accepted.
+pub fn wave(tally: &mut Tally, random: &mut Random, file: &[u8]) {
+    let line = || format!("wav {}", hex(file));
+    let (plain, strict) = (ours::read_wave(file), ours::read_strict_wave(file));
+    match wav::read_pcm16_wave(file).map_err(Refusal::from) {
+        Ok(wave) => {
+            let found = layout(file);
+            let due = numbers(&[0, wave.channels as usize, wave.sample_rate as usize, found.data, found.data_size]);
+            let strictly = match strict_refusal(file, &found) {
+                0 => due,
+                number => numbers(&[number]),
+            };
+            ask_plain(tally, "read", due, wave_answered(plain), line);
+            ask_plain(tally, "read strict", strictly, wave_answered(strict), line);
+            load(tally, random, &file[found.data..found.data + found.data_size], wave.samples, line);
+        }
+        Err(refusal) => {
+            let due = refused(&refusal);
+            ask_plain(tally, "read", due, wave_answered(plain), line);
+            ask_plain(tally, "read strict", due, wave_answered(strict), line);
+        }
+    }
+}
+
+/// Asks for these bytes as these samples.
+pub fn load(tally: &mut Tally, random: &mut Random, bytes: &[u8], samples: Vec<i16>, line: impl Fn() -> String) {
+    ask_filled((tally, random), "load samples", &Ok(samples), |out| ours::load_samples(bytes, out), line);
+}
+
+/// Asks the writer. The reference writes to a file at `path`.
+pub fn write(tally: &mut Tally, random: &mut Random, path: &Path, channels: u8, rate: u32, samples: &[i16]) {
+    let result = convert::written(path, channels, rate, samples);
+    let ask = |out: &mut [u8]| ours::write_wave(channels, rate, samples, out);
+    ask_filled((tally, random), "write", &result, ask, || format!("write {channels} {rate}{}", words(samples)));
+}

@@ -1,0 +1,336 @@
+//! How fast the proved code is, called as C calls it, beside the reference: the same inputs in the same run. oracle/bench
+//! builds and starts this program; oracle/README.md says what it measures.
+
+#[allow(dead_code)]
+mod input;
+#[allow(dead_code)]
+mod lists;
+#[allow(dead_code)]
+#[path = "../../examples/rust/postlapse.rs"]
+mod postlapse;
+
+/// The reference, unchanged, as in main.rs.
+#[allow(dead_code)]
+mod reference {
+    include!(env!("ORACLE_SQV4"));
+    include!(env!("ORACLE_WAV"));
+}
+
+use input::{VARIANTS, fragment_size, frame_samples, name, sample_bytes};
+use lists::{MONO, RATE, Random, STEREO};
+use postlapse as ours;
+use reference::sqv4::{self, Variant};
+use reference::wav;
+use std::hint::black_box;
+use std::process::ExitCode;
+use std::time::{Duration, Instant};
+
+const SOUNDS: [(&str, fn(&mut Random, usize) -> Vec<i16>); 4] =
+    [("speech", speech), ("noise", noise), ("silence", silence), ("tones", tones)];
+
+fn main() -> ExitCode {
+    let words: Vec<String> = std::env::args().skip(1).collect();
+    let quick = match words.iter().map(String::as_str).collect::<Vec<_>>()[..] {
+        [] => false,
+        ["quick"] => true,
+        _ => {
+            eprintln!("usage: oracle/bench [quick]");
+            return ExitCode::from(2);
+        }
+    };
+    let mut bench = Bench { quick, rows: Vec::new() };
+    bench.encode();
+    bench.decode();
+    bench.waves();
+    bench.summary();
+    ExitCode::SUCCESS
+}
+
+// ---- inputs
+
+/// Voiced parts, hisses and pauses of a tenth to four tenths of a second.
+fn speech(random: &mut Random, length: usize) -> Vec<i16> {
+    let mut samples = Vec::new();
+    while samples.len() < length {
+        let part = 800 + random.below(2400);
+        match random.below(6) {
+            0 => samples.extend((0..part).map(|_| random.around(3) as i16)),
+            1 => samples.extend((0..part).map(|_| random.around(1500) as i16)),
+            _ => samples.extend(lists::tone(random, part)),
+        }
+    }
+    samples.truncate(length);
+    samples
+}
+
+fn noise(random: &mut Random, length: usize) -> Vec<i16> {
+    (0..length).map(|_| random.sample()).collect()
+}
+
+fn silence(_: &mut Random, length: usize) -> Vec<i16> {
+    vec![0; length]
+}
+
+/// Full-scale sines, another one each second.
+fn tones(_: &mut Random, length: usize) -> Vec<i16> {
+    let sine = |at: usize| {
+        let turns = [200.0, 440.0, 1000.0, 2500.0][at / RATE as usize % 4] * at as f64 / RATE as f64;
+        (32767.0 * (turns * std::f64::consts::TAU).sin()).round() as i16
+    };
+    (0..length).map(sine).collect()
+}
+
+fn interleaved(make: fn(&mut Random, usize) -> Vec<i16>, channels: u8, length: usize) -> Vec<i16> {
+    let mut random = Random(1);
+    lists::interleaved(&(0..channels).map(|_| make(&mut random, length)).collect::<Vec<_>>())
+}
+
+/// A stream of whole frames, at least so many seconds long: the given one's fragments over and over.
+fn repeated(stream: &[u8], seconds: usize) -> Vec<u8> {
+    let (version, channels) = (stream[4], stream[6]);
+    let variant = Variant::try_from(stream[5]).unwrap();
+    let frames = (seconds * RATE as usize).div_ceil(frame_samples(version));
+    let size = frames * channels as usize * fragment_size(version, variant);
+    let mut bytes = lists::header(version, variant, channels, frames * frame_samples(version));
+    bytes.extend(stream[16..].iter().cycle().take(size));
+    bytes
+}
+
+fn channels_word(channels: u8) -> &'static str {
+    if channels == 1 { "mono" } else { "stereo" }
+}
+
+// ---- measuring
+
+/// What is asked: the words of a table's row, the length in seconds, and how many samples there are in all channels.
+#[derive(Clone)]
+struct Input {
+    words: Vec<String>,
+    seconds: usize,
+    samples: usize,
+}
+
+struct Row {
+    call: &'static str,
+    input: Input,
+    ours: f64,
+    rust: f64,
+}
+
+impl Row {
+    fn ratio(&self) -> f64 {
+        self.rust / self.ours
+    }
+
+    fn line(&self) -> String {
+        let speed = |seconds: f64| self.input.samples as f64 / seconds / 1e6;
+        let (words, seconds) = (self.input.words.join(" "), self.input.seconds);
+        let [ours, rust, ratio] = [speed(self.ours), speed(self.rust), self.ratio()];
+        format!("{:<8} {words:<19} {seconds:>4} s {ours:>10.3} {rust:>10.3} {ratio:>8.3}", self.call)
+    }
+}
+
+struct Bench {
+    quick: bool,
+    rows: Vec<Row>,
+}
+
+/// The seconds that one of `times` calls takes.
+fn time<T>(times: u32, call: &impl Fn() -> T) -> f64 {
+    let start = Instant::now();
+    for _ in 0..times {
+        black_box(call());
+    }
+    start.elapsed().as_secs_f64() / times as f64
+}
+
+impl Bench {
+    /// Times both sides in turn, short calls many at a time, and keeps the best time of each. The two must give the same.
+    fn race<T: PartialEq>(&mut self, call: &'static str, input: Input, ours: impl Fn() -> T, rust: impl Fn() -> T) {
+        assert!(ours() == rust(), "{call} {:?}: the two sides differ", input.words);
+        let times = (0.002 / time(1, &rust)).clamp(1.0, 10000.0) as u32;
+        let (rounds, least) =
+            if self.quick { (3, Duration::from_millis(30)) } else { (5, Duration::from_millis(150)) };
+        let mut row = Row { call, input, ours: f64::MAX, rust: f64::MAX };
+        let (start, mut round) = (Instant::now(), 0);
+        // A pair that takes seconds is long enough to be measured three times.
+        while round < 3 || (round < rounds && start.elapsed() < Duration::from_secs(3)) || start.elapsed() < least {
+            row.ours = row.ours.min(time(times, &ours));
+            row.rust = row.rust.min(time(times, &rust));
+            round += 1;
+        }
+        println!("{}", row.line());
+        self.rows.push(row);
+    }
+
+    fn lengths<'a>(&self, full: &'a [usize]) -> &'a [usize] {
+        if self.quick { &full[..1] } else { full }
+    }
+
+    fn encode(&mut self) {
+        println!("call     input               length       ours       Rust    ratio   (million samples a second)");
+        for (sound, make) in SOUNDS {
+            for channels in 1..=2 {
+                for &seconds in self.lengths(&[1, 10, 60]) {
+                    let pcm = interleaved(make, channels, seconds * RATE as usize);
+                    for variant in VARIANTS {
+                        self.encoding(sound, variant, channels, seconds, &pcm);
+                    }
+                }
+            }
+        }
+        if !self.quick {
+            self.encoding("speech", Variant::H, 1, 600, &interleaved(speech, 1, 600 * RATE as usize));
+        }
+    }
+
+    fn encoding(&mut self, sound: &str, variant: Variant, channels: u8, seconds: usize, pcm: &[i16]) {
+        let frames = (seconds * RATE as usize).div_ceil(63);
+        let size = 16 + frames * channels as usize * fragment_size(3, variant);
+        let words = [name(variant), channels_word(channels), sound].map(str::to_string).to_vec();
+        self.race(
+            "encode",
+            Input { words, seconds, samples: pcm.len() },
+            || {
+                let mut out = vec![0; size];
+                ours::encode(pcm, channels, RATE, variant as u8, 255, &mut out);
+                out
+            },
+            || sqv4::encode_interleaved(pcm, channels, RATE, variant, 255).unwrap(),
+        );
+    }
+
+    /// Decoding of every stream; inspection of those from speech and of the random ones.
+    fn decode(&mut self) {
+        let mut random = Random(1);
+        for variant in VARIANTS {
+            for channels in 1..=2 {
+                for (sound, make) in SOUNDS {
+                    let pcm = interleaved(make, channels, 1270 * 63);
+                    let stream = sqv4::encode_interleaved(&pcm, channels, RATE, variant, 255).unwrap();
+                    self.decoding(sound, &stream);
+                }
+                for version in 1..=2 {
+                    self.decoding(
+                        "random",
+                        &lists::random_stream(&mut random, version, variant, channels, 1250 * 64),
+                    );
+                }
+            }
+        }
+    }
+
+    /// A stream of ten seconds at every length.
+    fn decoding(&mut self, sound: &str, stream: &[u8]) {
+        let (version, channels) = (stream[4], stream[6]);
+        let variant = Variant::try_from(stream[5]).unwrap();
+        let word = if version == 3 { sound.to_string() } else { format!("version {version}") };
+        let words = vec![name(variant).to_string(), channels_word(channels).to_string(), word];
+        for &seconds in self.lengths(&[1, 10, 60, 600]) {
+            let file = repeated(stream, seconds);
+            let samples = ours::inspect(&file).samples as usize * channels as usize;
+            let input = Input { words: words.clone(), seconds, samples };
+            self.race(
+                "decode",
+                input.clone(),
+                || {
+                    let mut out = vec![0; samples];
+                    ours::decode(&file, &mut out);
+                    out
+                },
+                || sqv4::decode(&file).unwrap().samples,
+            );
+            if sound == "speech" || version < 3 {
+                self.race(
+                    "inspect",
+                    input,
+                    || ours::inspect(black_box(&file)).samples as usize,
+                    || sqv4::inspect(black_box(&file)).ok().unwrap().samples_per_channel,
+                );
+            }
+        }
+    }
+
+    /// WAV reading, the samples loaded.
+    fn waves(&mut self) {
+        for (channels, fields) in [(1, MONO), (2, STEREO)] {
+            for &seconds in self.lengths(&[1, 10, 60, 600]) {
+                let samples = interleaved(noise, channels, seconds * RATE as usize);
+                let file =
+                    lists::wave(&[&lists::format_chunk(fields), &lists::chunk("data", &sample_bytes(&samples))]);
+                self.race(
+                    "WAV read",
+                    Input { words: vec![channels_word(channels).to_string()], seconds, samples: samples.len() },
+                    || {
+                        let wave = ours::read_wave(&file);
+                        let mut out = vec![0; wave.size / 2];
+                        ours::load_samples(&file[wave.start..wave.start + wave.size], &mut out);
+                        out
+                    },
+                    || wav::read_pcm16_wave(&file).unwrap().samples,
+                );
+            }
+        }
+    }
+
+    // ---- what it comes to
+
+    fn mean(&self, value: impl Fn(&Row) -> f64, of: impl Fn(&Row) -> bool) -> f64 {
+        let logs: Vec<f64> = self.rows.iter().filter(|row| of(row)).map(|row| value(row).ln()).collect();
+        (logs.iter().sum::<f64>() / logs.len() as f64).exp()
+    }
+
+    /// Geometric means of the ratios, by the words of the rows too; how the time per sample grows; and the peak of memory.
+    fn summary(&self) {
+        const CALLS: [&str; 4] = ["encode", "decode", "inspect", "WAV read"];
+        println!("geometric means of the ratios:");
+        for call in CALLS {
+            let mut line = format!("{call} {:.3}", self.mean(Row::ratio, |row| row.call == call));
+            let mut words: Vec<&String> = Vec::new();
+            for word in self.rows.iter().filter(|row| row.call == call).flat_map(|row| &row.input.words) {
+                if !words.contains(&word) {
+                    words.push(word);
+                }
+            }
+            for word in words {
+                let ratio = self.mean(Row::ratio, |row| row.call == call && row.input.words.contains(word));
+                line += &format!(", {word} {ratio:.3}");
+            }
+            println!("{line}");
+        }
+        println!("nanoseconds a sample, ours and Rust:");
+        for call in CALLS {
+            println!("{call}{}", self.growth(call));
+        }
+        println!("peak memory of this process: {}", peak_memory());
+        let [encode, decode] = ["encode", "decode"].map(|call| self.mean(Row::ratio, |row| row.call == call));
+        println!("encode {encode:.3} decode {decode:.3}");
+    }
+
+    /// The mean time of a sample at each length. The one encoding of ten minutes has no others like it, and is left out.
+    fn growth(&self, call: &str) -> String {
+        let lengths = if call == "encode" { &[1, 10, 60][..] } else { &[1, 10, 60, 600] };
+        let mean = |seconds, side: fn(&Row) -> f64| {
+            self.mean(
+                |row| side(row) / row.input.samples as f64 * 1e9,
+                |row| row.call == call && row.input.seconds == seconds,
+            )
+        };
+        self.lengths(lengths)
+            .iter()
+            .map(|&seconds| {
+                format!(" {seconds} s {:.2} {:.2}", mean(seconds, |row| row.ours), mean(seconds, |row| row.rust))
+            })
+            .collect::<Vec<_>>()
+            .join(",")
+    }
+}
+
+/// VmHWM, as the system says it.
+fn peak_memory() -> String {
+    let status = std::fs::read_to_string("/proc/self/status").unwrap_or_default();
+    status
+        .lines()
+        .find_map(|line| line.strip_prefix("VmHWM:"))
+        .map_or("unknown".to_string(), |size| size.trim().to_string())
+}
