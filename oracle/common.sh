@@ -52,13 +52,14 @@ compile() {
 # The reference's two modules by their full paths, for include! in src.
 ORACLE_SQV4=$out/sqv4_module.rs
 ORACLE_WAV=$out/wav_module.rs
-export ORACLE_SQV4 ORACLE_WAV
+ORACLE_CONVERT=$convert
+export ORACLE_SQV4 ORACLE_WAV ORACLE_CONVERT
 printf '#[path = "%s"]\npub mod sqv4;\n' "$sqv4" | keep "$ORACLE_SQV4"
 printf '#[path = "%s"]\npub mod wav;\n' "$wav" | keep "$ORACLE_WAV"
 
-# stale_program FILE SOURCE..: the same for what is made of src, the two modules and these sources.
+# stale_program FILE SOURCE..: the same for what is made of src, the reference and these sources.
 stale_program() {
-    stale "$@" "$ours" "$ORACLE_SQV4" "$ORACLE_WAV" "$sqv4" "$wav"
+    stale "$@" "$ours" "$ORACLE_SQV4" "$ORACLE_WAV" "$sqv4" "$wav" "$convert"
 }
 
 # compile_converter FILE ARGUMENT..: with the crates that the reference's converter names.

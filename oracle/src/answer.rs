@@ -1,5 +1,6 @@
 //! The reference's answer to an input. Refusals have the numbers of the scope paper's table.
 
+use crate::convert;
 use crate::input::{Input, hex, words};
 use crate::print;
 use crate::reference::sqv4::{self, Error, State, Variant};
@@ -13,6 +14,7 @@ pub enum Answer {
     Stepped(State),
     Volume(u8),
     Wave(PcmWave),
+    File(Vec<u8>),
     Printed(Vec<u8>),
 }
 
@@ -45,6 +47,7 @@ pub fn answer(input: &Input) -> Result<Answer, Refusal> {
         }
         Input::Volume(samples) => Ok(Answer::Volume(sqv4::fragment_volume(samples))),
         Input::Wav(bytes) => Ok(Answer::Wave(wav::read_pcm16_wave(bytes)?)),
+        Input::Write { channels, rate, samples } => Ok(Answer::File(convert::written(*channels, *rate, samples)?)),
         Input::Converter(bytes) => Ok(Answer::Printed(print::converter(bytes))),
         Input::Inspector(bytes) => Ok(Answer::Printed(print::inspector(bytes))),
     }
@@ -85,7 +88,7 @@ pub fn line(input: &Input) -> String {
 
 fn answer_words(answer: &Answer) -> String {
     match answer {
-        Answer::Stream(bytes) | Answer::Printed(bytes) => format!(" {}", hex(bytes)),
+        Answer::Stream(bytes) | Answer::File(bytes) | Answer::Printed(bytes) => format!(" {}", hex(bytes)),
         Answer::Header { version, variant, channels, rate, samples } => {
             format!(" {version} {variant} {channels} {rate} {samples}")
         }

@@ -50,7 +50,7 @@ fn test(input: &Input) -> Option<Vec<String>> {
             let call = format!("steps {version} {} {} {code}", name(*variant), state_words(*state));
             [vec![call], result(answer.ok()?)].concat()
         }
-        Input::Volume(_) | Input::Wav(_) | Input::Converter(_) | Input::Inspector(_) => return None,
+        Input::Volume(_) | Input::Wav(_) | Input::Write { .. } | Input::Converter(_) | Input::Inspector(_) => return None,
     })
 }
 
@@ -74,7 +74,7 @@ fn result(answer: Answer) -> Vec<String> {
         Answer::Samples(samples) => integers(&samples),
         Answer::Played(state, samples) => [vec![state_words(state)], integers(&samples)].concat(),
         Answer::Stepped(state) => vec![state_words(state)],
-        Answer::Volume(_) | Answer::Wave(_) | Answer::Printed(_) => vec![],
+        Answer::Volume(_) | Answer::Wave(_) | Answer::File(_) | Answer::Printed(_) => vec![],
     }
 }
 

@@ -9,7 +9,6 @@ use crate::postlapse as ours;
 use crate::reference::sqv4::{self, State, Variant};
 use crate::reference::wav;
 use crate::tally::Tally;
-use std::path::Path;
 
 /// The numbers of an answer in the order of its struct, the refusal first, and zeros behind them.
 type Numbers = [i64; 8];
@@ -347,9 +346,9 @@ pub fn load(tally: &mut Tally, random: &mut Random, bytes: &[u8], samples: Vec<i
     ask_filled((tally, random), "load samples", &Ok(samples), |out| ours::load_samples(bytes, out), line);
 }
 
-/// Asks the writer. The reference writes to a file at `path`.
-pub fn write(tally: &mut Tally, random: &mut Random, path: &Path, channels: u8, rate: u32, samples: &[i16]) {
-    let result = convert::written(path, channels, rate, samples);
+/// Asks the writer.
+pub fn write(tally: &mut Tally, random: &mut Random, channels: u8, rate: u32, samples: &[i16]) {
+    let result = convert::written(channels, rate, samples);
     let ask = |out: &mut [u8]| ours::write_wave(channels, rate, samples, out);
     ask_filled((tally, random), "write", &result, ask, || format!("write {channels} {rate}{}", words(samples)));
 }

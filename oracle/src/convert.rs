@@ -4,10 +4,18 @@ include!(env!("ORACLE_CONVERT"));
 
 use crate::answer::Refusal;
 
-/// The file that the reference writes, by way of a file at `path`. Its refusals are known by their texts alone.
-pub fn written(path: &Path, channels: u8, rate: u32, samples: &[i16]) -> Result<Vec<u8>, Refusal> {
-    let number = match write_pcm16_wave(path, channels, rate, samples) {
-        Ok(()) => return Ok(fs::read(path).unwrap()),
+/// The file that the reference writes, by way of a file in memory where there is such a folder. Its refusals are known by their texts
+/// alone.
+pub fn written(channels: u8, rate: u32, samples: &[i16]) -> Result<Vec<u8>, Refusal> {
+    let memory = PathBuf::from("/dev/shm");
+    let folder = if memory.is_dir() { memory } else { env::temp_dir() };
+    let path = folder.join(format!("oracle-{}.wav", process::id()));
+    let number = match write_pcm16_wave(&path, channels, rate, samples) {
+        Ok(()) => {
+            let file = fs::read(&path).unwrap();
+            fs::remove_file(path).unwrap();
+            return Ok(file);
+        }
         Err(text) => match text.as_str() {
             "preview channel count must be mono or stereo" => 34,
             "preview WAV exceeds RIFF size limit" => 35,

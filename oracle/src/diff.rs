@@ -28,7 +28,6 @@ use ask::{Channels, Fragment, Sound};
 use input::{VARIANTS, fragment_size, frame_samples, prefix};
 use lists::{Fields, MONO, RATE, Random, SPOILS, STEREO};
 use reference::sqv4::{self, State, Variant};
-use std::path::{Path, PathBuf};
 use std::process::ExitCode;
 use tally::Tally;
 
@@ -69,10 +68,8 @@ fn compare(n: u64, seed: u64) -> Tally {
         tally.start(group);
         (0..n).for_each(|_| ask(&mut tally, &mut random));
     }
-    let path = scratch_file();
     tally.start("WAV to write");
-    (0..n.div_ceil(10)).for_each(|_| write(&mut tally, &mut random, &path));
-    let _ = std::fs::remove_file(path);
+    (0..n.div_ceil(10)).for_each(|_| write(&mut tally, &mut random));
 
     let whole: [(&str, fn(&mut Tally, &mut Random)); 5] = [
         ("all header bytes", header_bytes),
@@ -462,17 +459,10 @@ fn sample_bytes(tally: &mut Tally, random: &mut Random) {
 }
 
 /// A file to write: at times with a channel count or a rate that is refused, or with a partial frame.
-fn write(tally: &mut Tally, random: &mut Random, path: &Path) {
+fn write(tally: &mut Tally, random: &mut Random) {
     let channels = if rarely(random, 8) { random.byte() } else { 1 + random.below(2) as u8 };
     let rates = [0, RATE, u32::MAX / 4, u32::MAX / 4 + 1, u32::MAX / 2, u32::MAX / 2 + 1, random.next() as u32];
     let rate = rates[random.below(7)];
     let samples: Vec<i16> = (0..random.below(140)).map(|_| random.sample()).collect();
-    ask::write(tally, random, path, channels, rate, &samples);
-}
-
-/// A file for what the reference's writer writes, in memory where there is such a folder.
-fn scratch_file() -> PathBuf {
-    let memory = PathBuf::from("/dev/shm");
-    let folder = if memory.is_dir() { memory } else { std::env::temp_dir() };
-    folder.join(format!("oracle-diff-{}.wav", std::process::id()))
+    ask::write(tally, random, channels, rate, &samples);
 }

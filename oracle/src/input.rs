@@ -13,6 +13,7 @@ pub enum Input {
     Step { version: u8, variant: Variant, state: State, code: u8 },
     Volume(Vec<i16>),
     Wav(Vec<u8>),
+    Write { channels: u8, rate: u32, samples: Vec<i16> },
     Converter(Vec<u8>),
     Inspector(Vec<u8>),
 }
@@ -47,6 +48,9 @@ fn parse(line: &str) -> Result<Input, String> {
         }
         ["volume", ref samples @ ..] => Ok(Input::Volume(numbers(samples)?)),
         ["wav", bytes] => Ok(Input::Wav(unhex(bytes)?)),
+        ["write", channels, rate, ref samples @ ..] => {
+            Ok(Input::Write { channels: number(channels)?, rate: number(rate)?, samples: numbers(samples)? })
+        }
         ["converter", bytes] => Ok(Input::Converter(unhex(bytes)?)),
         ["inspector", bytes] => Ok(Input::Inspector(unhex(bytes)?)),
         _ => Err("not an input".to_string()),

@@ -1,6 +1,6 @@
 //! Lists of inputs. They are the same at every run: the random numbers start from a fixed seed.
 
-use crate::input::{VARIANTS, encode_line, fragment_size, frame_samples, hex, name, prefix, sample_bytes, short_hex};
+use crate::input::{VARIANTS, encode_line, fragment_size, frame_samples, hex, name, prefix, sample_bytes, short_hex, words};
 use crate::reference::sqv4::{self, Variant};
 
 pub const RATE: u32 = 8000;
@@ -15,6 +15,7 @@ pub fn list(name: &str) -> Option<String> {
         "fragments" => Some(fragments()),
         "lengths" => Some(lengths()),
         "waves" => Some(waves()),
+        "writes" => Some(writes()),
         "programs" => Some(programs()),
         _ => None,
     }
@@ -565,6 +566,21 @@ fn format_damages() -> Vec<Vec<u8>> {
         files.push(wave(&[&format_chunk(Fields { rate, byte_rate, ..fields }), data]));
     }
     files
+}
+
+/// Files to write: channel counts and rates at their limits, no samples, partial frames, the limits of a sample.
+fn writes() -> String {
+    let mut random = Random::new();
+    let mut text = String::new();
+    for channels in [0, 1, 2, 3, 255] {
+        for rate in [0, 1, RATE, u32::MAX / 4, u32::MAX / 4 + 1, u32::MAX / 2, u32::MAX / 2 + 1, u32::MAX] {
+            let mut samples = vec![-32768, 32767, -1, 0, 1];
+            samples.extend((0..random.below(64)).map(|_| random.sample()));
+            samples.truncate([0, 1, 2, 64][random.below(4)]);
+            text += &format!("write {channels} {rate}{}\n", words(&samples));
+        }
+    }
+    text
 }
 
 // ---- standard input of the programs

@@ -3,6 +3,8 @@
 
 mod answer;
 mod antt;
+#[allow(dead_code)]
+mod convert;
 mod input;
 mod lists;
 mod print;
@@ -23,7 +25,7 @@ const USAGE: &str = "usage: oracle/run answers < LIST
        oracle/run antt < LIST
        oracle/run record < LIST
        oracle/run print converter|inspector < INPUT
-       oracle/run inputs matrix|edges|decode|headers|steps|fragments|lengths|waves|programs|search";
+       oracle/run inputs matrix|edges|decode|headers|steps|fragments|lengths|waves|writes|programs|search";
 
 fn main() -> ExitCode {
     match run().and_then(|output| io::stdout().write_all(&output).map_err(|error| error.to_string())) {

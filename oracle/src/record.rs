@@ -2,6 +2,7 @@
 
 use crate::answer::{self, Answer, Refusal};
 use crate::input::{Input, bad_line, sample_bytes, without_last_zeros};
+use crate::reference::sqv4::State;
 
 /// The bytes that a question and an answer may have in crates/replay.
 const MOST_QUESTION: usize = 65538;
@@ -39,6 +40,12 @@ fn question(input: &Input) -> Result<Vec<u8>, &'static str> {
         Input::Inspect(stream) => Ok([&[2], &stream[..]].concat()),
         Input::Decode(stream) => Ok([&[3], &stream[..]].concat()),
         Input::Wav(file) => Ok([&[4], &file[..]].concat()),
+        Input::Fragment { version, variant, state, count, bytes } => {
+            Ok([&[7, *version, *variant as u8, *count as u8], &state_bytes(state)[..], bytes].concat())
+        }
+        Input::Write { channels, rate, samples } => {
+            Ok([&[8, *channels], &rate.to_le_bytes()[..], &sample_bytes(samples)].concat())
+        }
         Input::Converter(bytes) => Ok([&[5], &bytes[..]].concat()),
         Input::Inspector(bytes) => Ok([&[6], &bytes[..]].concat()),
         _ => Err("no record of this kind"),
@@ -54,7 +61,7 @@ fn refused(refusal: &Refusal) -> Vec<u8> {
 fn result(answer: &Answer) -> Vec<u8> {
     let mut bytes = vec![1];
     match answer {
-        Answer::Stream(stream) => bytes.extend(stream),
+        Answer::Stream(file) | Answer::File(file) => bytes.extend(file),
         Answer::Header { version, variant, channels, rate, samples } => {
             bytes.extend([*version, *variant, *channels]);
             bytes.extend((*rate as u64).to_le_bytes());
@@ -66,7 +73,17 @@ fn result(answer: &Answer) -> Vec<u8> {
             bytes.extend((wave.sample_rate as u64).to_le_bytes());
             bytes.extend(sample_bytes(&wave.samples));
         }
-        _ => unreachable!("only encoding, inspection, decoding and WAV reading are recorded"),
+        Answer::Played(state, samples) => {
+            bytes.extend(state_bytes(state));
+            bytes.extend(sample_bytes(samples));
+        }
+        _ => unreachable!("a program's answer is what it prints, and no other kind is recorded"),
     }
     bytes
+}
+
+/// A decoder's state: 1 where the predictor is negative and else 0, its magnitude and the index in 8 bytes each.
+fn state_bytes(state: &State) -> Vec<u8> {
+    let magnitude = state.predictor.unsigned_abs() as u64;
+    [&[(state.predictor < 0) as u8], &magnitude.to_le_bytes()[..], &(state.index as u64).to_le_bytes()].concat()
 }

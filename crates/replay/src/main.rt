@@ -1,11 +1,13 @@
 // Replays answers that were recorded from the Rust. Each file of data/ holds questions of one kind: to the encoder, to inspection, to
-// the decoder, to the reader of WAV files, to the converter and to the inspector, each with the Rust's answer as bytes; oracle/README.md
-// has the layout. Each question is asked of the proved functions, and the answer's bytes are compared. The program prints for each file
-// how many answers there were and how many differ.
+// the decoder, to the fragment decoder, to the reader and the writer of WAV files, to the converter and to the inspector, each with the
+// Rust's answer as bytes; oracle/README.md has the layout. Each question is asked of the proved functions, and the answer's bytes are
+// compared. The program prints for each file how many answers there were and how many differ.
 use format::Decoded;
 use format::Encoded;
 use format::Error;
+use format::FragmentDecoded;
 use format::Inspected;
+use format::State;
 use format::Variant;
 use libc::STDOUT_FILENO;
 use wav::WaveError;
@@ -165,7 +167,78 @@ fn ask_decode(q: &[u8], out: &mut [u8]) -> usize {
     }
 }
 
-// A refusal of plain WAV reading, which returns no numbers.
+// Puts a decoder's state: whether the predictor is negative, its magnitude, and the index.
+fn put_state(out: &mut [u8], at: usize, s: State) -> usize {
+    let predictor = s.predictor;
+    let sign = if signed::is_negative(predictor) { 1 } else { 0 };
+    let next = put(out, at, sign);
+    let last = put_eight(out, next, signed::magnitude(predictor) as usize);
+    put_eight(out, last, s.index)
+}
+
+// The state that a question has at byte k, of a predictor of 16 bits.
+fn state_at(q: &[u8], k: usize) -> State {
+    let part = tail(q, k);
+    let predictor = signed::with_sign(byte_at(part, 0) == 1, word_at(part, 1) % 65536);
+    State {
+        predictor,
+        index: word_at(part, 9) as usize,
+    }
+}
+
+// The answer to a fragment's question, decoded into a buffer.
+fn play(q: &[u8], pcm: &mut [i16], out: &mut [u8]) -> usize {
+    let variant = Variant::from_byte(byte_at(q, 2));
+    let count = byte_at(q, 3) as usize;
+    if pcm.len() < count {
+        return 0;
+    }
+    let state = state_at(q, 4);
+    let r = fragment::decode_one(
+        byte_at(q, 1),
+        variant,
+        state,
+        tail(q, 21),
+        &mut pcm[..count],
+    );
+    let answer = r.answer;
+    let next = r.state;
+    match answer {
+        FragmentDecoded::Filled(n) => {
+            let at = put(out, 0, 1);
+            let end = put_state(out, at, next);
+            put_samples(out, end, front_samples(pcm, n))
+        }
+        FragmentDecoded::Refused(e) => put_refused(out, e),
+    }
+}
+
+// Kind 7: version, variant, count, state, a fragment. A result: 1, the state after it, and the samples.
+fn ask_fragment(q: &[u8], out: &mut [u8]) -> usize {
+    let mut pcm = [0i16; 64];
+    play(q, &mut pcm, out)
+}
+
+// Kind 8: channels, rate, samples. A result: 1, and the file.
+fn ask_write(q: &[u8], out: &mut [u8]) -> usize {
+    let mut pcm = [0i16; 1024];
+    let n = load(tail(q, 6), &mut pcm);
+    let mut file = [165u8; 2148];
+    match wav_writer::write_pcm16_wave(
+        byte_at(q, 1),
+        word_at(q, 2),
+        front_samples(&pcm, n),
+        &mut file,
+    ) {
+        WaveFilled::Filled(size) => {
+            let at = put(out, 0, 1);
+            put_bytes(out, at, front(&file, size))
+        }
+        WaveFilled::Refused(e) => put_wave_refused(out, e),
+    }
+}
+
+// A refusal of a WAV call that returns no numbers.
 fn put_wave_refused(out: &mut [u8], e: WaveError) -> usize {
     let a = put(out, 0, 0);
     let b = put(out, a, e.number());
@@ -199,6 +272,12 @@ fn ask(q: &[u8], out: &mut [u8; 335488]) -> usize {
     }
     if kind == 4 {
         return ask_wave(q, out);
+    }
+    if kind == 7 {
+        return ask_fragment(q, out);
+    }
+    if kind == 8 {
+        return ask_write(q, out);
     }
     if kind == 5 {
         return commands::convert(tail(q, 1), out);
@@ -326,7 +405,9 @@ fn main() {
     replay_file(b"encode");
     replay_file(b"inspect");
     replay_file(b"decode");
+    replay_file(b"fragment");
     replay_file(b"wav");
+    replay_file(b"write");
     replay_file(b"converter");
     replay_file(b"inspector");
 }
