@@ -58,7 +58,7 @@ fn put_refusal(out: &mut [u8], number: u8, values: Values) -> usize
 }
 
 // The inspector: a stream's report, or a refusal's line, at the front of the output. The answer is how many bytes there are.
-pub fn report(input: &[u8], out: &mut [u8; 335488]) -> usize
+pub fn report(input: &[u8], out: &mut [u8; ROOM]) -> usize
     ensures { λ r. ⌜ Counts r (now (out .exit)) ⌝ }
     ensures { λ r. ⌜ Put (now (out .entry)) 0 (printed (reported (now (input .entry)))) (now (out .exit)) r ⌝ }
 {
@@ -111,7 +111,7 @@ fn put_wave(out: &mut [u8], settings: Settings, file: &[u8]) -> usize
 
 // The converter: the stream of a WAV at a variant and a gain, or a refusal's line, at the front of the output. The answer is how many
 // bytes there are.
-pub fn convert(input: &[u8], out: &mut [u8; 335488]) -> usize
+pub fn convert(input: &[u8], out: &mut [u8; ROOM]) -> usize
     ensures { λ r. ⌜ Counts r (now (out .exit)) ⌝ }
     ensures { λ r. ⌜ Put (now (out .entry)) 0 (printed (converted (now (input .entry)))) (now (out .exit)) r ⌝ }
 {

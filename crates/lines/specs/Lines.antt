@@ -25,7 +25,7 @@ headerLine h =
     (letters "version" ∷ decimal (h .version) ∷ letters "variant" ∷ variantName (h .variant) ∷ letters "channels" ∷ decimal (h .channels)
     ∷ letters "rate" ∷ decimal (h .rate) ∷ letters "samples" ∷ decimal (h .samples) ∷ [])
 
--- - in versions 1, 2
+-- the index, and - in versions 1, 2
 unfoldable pub indexField : ℕ → List ℕ → List ℕ
 indexField version fragment = cond (anew version) (decimal (indexByte fragment)) (letters "-")
 

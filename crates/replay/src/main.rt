@@ -259,7 +259,7 @@ fn ask_wave(q: &[u8], out: &mut [u8]) -> usize {
     }
 }
 
-fn ask(q: &[u8], out: &mut [u8; 335488]) -> usize {
+fn ask(q: &[u8], out: &mut [u8; commands::ROOM]) -> usize {
     let kind = byte_at(q, 0);
     if kind == 1 {
         return ask_encode(q, out);
@@ -286,13 +286,13 @@ fn ask(q: &[u8], out: &mut [u8; 335488]) -> usize {
 }
 
 // Whether the first n bytes of `mine` are the answer.
-fn is_same(mine: &[u8; 335488], n: usize, answer: &[u8]) -> bool {
+fn is_same(mine: &[u8; commands::ROOM], n: usize, answer: &[u8]) -> bool {
     check::same(front(mine, n), answer)
 }
 
 // Whether the answer to a question is the one that was recorded.
 fn is_answered(question: &[u8], answer: &[u8]) -> bool {
-    let mut mine = [0u8; 335488];
+    let mut mine = [0u8; commands::ROOM];
     let n = ask(question, &mut mine);
     is_same(&mine, n, answer)
 }
@@ -311,7 +311,7 @@ fn try_record(fd: i32, sizes: [u8; 16]) -> Turn {
     if !read_exact(fd, &mut question, word_at(&sizes, 4) as usize) {
         return Turn::Broken;
     }
-    let mut answer = [0u8; 335488];
+    let mut answer = [0u8; commands::ROOM];
     if !read_exact(fd, &mut answer, word_at(&sizes, 12) as usize) {
         return Turn::Broken;
     }

@@ -12,13 +12,13 @@ unfoldable pub letters : String → List ℕ
 letters empty = []
 letters (c then s) = code c ∷ letters s
 
--- the decimal digits of a number above 0, the highest first: those of n / 10, then n % 10. None has more than n digits
+-- the last k decimal digits of a number above 0, the highest first: those of n / 10, then n % 10
 unfoldable pub digitsOf : ℕ → ℕ → List ℕ
 digitsOf zero n = []
 digitsOf (suc k) zero = []
 digitsOf (suc k) (suc n) = digitsOf k (suc n / 10) ++ ((48 + suc n % 10) ∷ [])
 
--- a decimal field, without leading zeros
+-- a decimal field, without leading zeros: no number has more digits than itself
 unfoldable pub decimal : ℕ → List ℕ
 decimal zero = letters "0"
 decimal (suc n) = digitsOf (suc n) (suc n)
