@@ -71,6 +71,13 @@ compile_converter() {
     compile "$@" --extern "cpt32=$out/libcpt32.rlib" --extern "tracing=$out/libtracing.rlib"
 }
 
+# The reference's converter, as target/oracle/sqv4_convert.
+reference_converter() {
+    if stale_program "$out/sqv4_convert"; then
+        compile_converter "$out/sqv4_convert" "$convert"
+    fi
+}
+
 # The proved code as an archive.
 proved_archive() {
     archive=$top/target/staticlib/libpostlapse.a

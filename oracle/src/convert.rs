@@ -4,18 +4,25 @@ include!(env!("ORACLE_CONVERT"));
 
 use crate::answer::Refusal;
 
-/// The file that the reference writes, by way of a file in memory where there is such a folder. Its refusals are known by their texts
-/// alone.
-pub fn written(channels: u8, rate: u32, samples: &[i16]) -> Result<Vec<u8>, Refusal> {
+/// A file of this name that no other process writes, in memory where there is such a folder.
+fn scratch(name: &str) -> PathBuf {
     let memory = PathBuf::from("/dev/shm");
     let folder = if memory.is_dir() { memory } else { env::temp_dir() };
-    let path = folder.join(format!("oracle-{}.wav", process::id()));
+    folder.join(format!("oracle-{}{name}", process::id()))
+}
+
+/// The bytes of a file, which is then removed.
+fn taken(path: &Path) -> Vec<u8> {
+    let bytes = fs::read(path).unwrap();
+    fs::remove_file(path).unwrap();
+    bytes
+}
+
+/// The file that the reference writes. Its refusals are known by their texts alone.
+pub fn written(channels: u8, rate: u32, samples: &[i16]) -> Result<Vec<u8>, Refusal> {
+    let path = scratch(".wav");
     let number = match write_pcm16_wave(&path, channels, rate, samples) {
-        Ok(()) => {
-            let file = fs::read(&path).unwrap();
-            fs::remove_file(path).unwrap();
-            return Ok(file);
-        }
+        Ok(()) => return Ok(taken(&path)),
         Err(text) => match text.as_str() {
             "preview channel count must be mono or stereo" => 34,
             "preview WAV exceeds RIFF size limit" => 35,
@@ -25,4 +32,14 @@ pub fn written(channels: u8, rate: u32, samples: &[i16]) -> Result<Vec<u8>, Refu
         },
     };
     Err(Refusal { number, values: vec![] })
+}
+
+/// What the reference's converter, run as a program on files, makes of a WAV file: the stream and the preview. None where it refuses.
+pub fn converted(file: &[u8], variant: &str, gain: u8) -> Option<(Vec<u8>, Vec<u8>)> {
+    let (input, output, preview) = (scratch(".in.wav"), scratch(".sqv"), scratch(".preview.wav"));
+    fs::write(&input, file).unwrap();
+    let mut program = process::Command::new("target/oracle/sqv4_convert");
+    let run = program.args([&input, &output]).args([variant, &gain.to_string()]).output().unwrap();
+    fs::remove_file(&input).unwrap();
+    run.status.success().then(|| (taken(&output), taken(&preview)))
 }

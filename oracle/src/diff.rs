@@ -70,6 +70,8 @@ fn compare(n: u64, seed: u64) -> Tally {
     }
     tally.start("WAV to write");
     (0..n.div_ceil(10)).for_each(|_| write(&mut tally, &mut random));
+    tally.start("whole converter");
+    (0..n.div_ceil(1000)).for_each(|_| whole_converter(&mut tally, &mut random));
 
     let whole: [(&str, fn(&mut Tally, &mut Random)); 5] = [
         ("all header bytes", header_bytes),
@@ -465,4 +467,15 @@ fn write(tally: &mut Tally, random: &mut Random) {
     let rate = rates[random.below(7)];
     let samples: Vec<i16> = (0..random.below(140)).map(|_| random.sample()).collect();
     ask::write(tally, random, channels, rate, &samples);
+}
+
+/// A file for the reference's converter, run as a program: a sound, at times damaged.
+fn whole_converter(tally: &mut Tally, random: &mut Random) {
+    let fields = [MONO, STEREO][random.below(2)];
+    let length = length(random, 63);
+    let mut file = lists::sound(fields, &samples(random, fields.channels as usize, length));
+    if rarely(random, 4) {
+        damage_wave(random, &mut file);
+    }
+    ask::whole_converter(tally, &file, VARIANTS[random.below(3)], random.byte());
 }

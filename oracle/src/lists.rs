@@ -627,7 +627,7 @@ fn to_convert(variant: u8, gain: u8, file: &[u8]) -> Vec<u8> {
 }
 
 /// A WAV file of these samples.
-fn sound(fields: Fields, samples: &[i16]) -> Vec<u8> {
+pub fn sound(fields: Fields, samples: &[i16]) -> Vec<u8> {
     wave(&[&format_chunk(fields), &chunk("data", &sample_bytes(samples))])
 }
 
