@@ -19,9 +19,9 @@ use Rattle.wav.specs.Wave.{frameBytes, oneOrTwo, readWave, partOf}
 use Rattle.wav.specs.Samples.{samplesOf}
 use Rattle.wav.specs.declared.Wave.{Wave}
 use Rattle.wav.proofs.Plain.{plain, PlainRefusal, plain-refusals}
+use Rattle.wav.proofs.Samples.{length-samples}
 use Rattle.wav.proofs.Within.{samples-within}
 use Rattle.commands.specs.Commands.{encodeWhole, encodeWave}
-use Rattle.commands.proofs.Printing.{length-samples}
 
 -- ---- the encoder takes each WAV that plain reading accepts and a program can read
 

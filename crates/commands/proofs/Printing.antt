@@ -15,7 +15,6 @@ use Rattle.outcome.specs.Outcome.{Outcome, result, refused, refuseIf, need, onR
 use Rattle.outcome.proofs.Flags.{either-elim}
 use Rattle.outcome.proofs.Laws.{checks, clear, then-result, then-refused, on-result, on-refused, refusing-is}
 use Rattle.lists.specs.Lists.{joined}
-use Rattle.lists.proofs.ByIndex.{length-tabulate}
 use Rattle.format.specs.Layout.{variantOf, anew, versionFor, channelsFit, payloadBytes, frames, sizeIn, streamLength}
 use Rattle.format.specs.Encode.{headerWritten, encodeCall}
 use Rattle.format.specs.Inspect.{inspected}
@@ -28,6 +27,7 @@ use Rattle.wav.specs.Samples.{samplesOf, samplesCall}
 use Rattle.wav.specs.Answers.{numberOf, valuesOf, filledOf, AsSamples}
 use Rattle.wav.specs.declared.Wave.{Wave}
 use Rattle.wav.specs.declared.WaveError.{WaveError}
+use Rattle.wav.proofs.Samples.{length-samples}
 use Rattle.wav.proofs.Plain.{PlainRefusal, plain-refusals}
 use Rattle.io.specs.Counts.{Counts}
 use Rattle.text.specs.Text.{written, Put}
@@ -77,10 +77,6 @@ pub fragments-few : (h : Header) → streamLength h ≤ 65536 → frames h * h .
 fragments-few h l = omega (arith, mul-le-mul-left (frames h * h .channels) (fragment-large h))
 
 -- ---- sample bytes
-
-pub length-samples : (bytes : List ℕ) → length (samplesOf bytes) ≡ length bytes / 2
-unfolding samplesOf
-length-samples bytes = length-tabulate _ _
 
 module _ (bytes : List ℕ) (out output : List ℤ) (room : length bytes / 2 ≤ length out) where
   all-loaded : samplesCall bytes (length out) ≡ result (samplesOf bytes)

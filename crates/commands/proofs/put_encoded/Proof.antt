@@ -4,7 +4,8 @@ use native.Mathlib.Omega.{arith}
 use lib.ListN.{length}
 use borrow.Author.Needs.{needs}
 use Rattle.wav.specs.Samples.{samplesOf}
-use Rattle.commands.proofs.Printing.{length-samples, room-enough, encoding-printed, refusal-printed}
+use Rattle.wav.proofs.Samples.{length-samples}
+use Rattle.commands.proofs.Printing.{room-enough, encoding-printed, refusal-printed}
 use Rattle.format.specs.Answers.{encodedOf}
 use Rattle.commands.proofs.put_encoded.Statement.{statement}
 use Rattle.commands.proofs.put_encoded.Tie as tie
