@@ -89,7 +89,7 @@ fn put_encoded(out: &mut [u8], settings: Settings, bytes: &[u8], channels: u8, r
 {
     let mut pcm = [0i16; 32768];
     let n = load(bytes, &mut pcm);
-    match sqv4::encode(settings, &pcm[..n], channels, rate, out) {
+    match encoder::encode(settings, &pcm[..n], channels, rate, out) {
         Encoded::Written(e) => e.length,
         Encoded::Refused(e) => put_refusal(out, e.number(), e.values()),
     }

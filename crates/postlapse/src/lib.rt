@@ -240,7 +240,7 @@ pub extern "C" fn postlapse_encode(
         return refused_answer(Error::InvalidVariant(variant));
     }
     let kind = Variant::from_byte(variant);
-    encoded_answer(sqv4::encode_interleaved(pcm, channels, rate, kind, gain, out))
+    encoded_answer(encoder::encode_interleaved(pcm, channels, rate, kind, gain, out))
 }
 
 // The header of a stream that is sound throughout.
@@ -257,7 +257,7 @@ pub extern "C" fn postlapse_decode(file: &[u8], out: &mut [i16]) -> HeaderAnswer
     ensures { λ r. ⌜ Decodes (decodeCall (now (file .entry)) (length (now (out .entry))))
         (now (out .entry)) r (now (out .exit)) ⌝ }
 {
-    decoded_answer(sqv4::decode(file, out))
+    decoded_answer(decoder::decode(file, out))
 }
 
 // What decoding one fragment comes to: the answer, and the channel's state after the call.

@@ -122,7 +122,7 @@ fn ask_encode(q: &[u8], out: &mut [u8]) -> usize {
     let n = load(tail(q, 8), &mut pcm);
     let samples = front_samples(&pcm, n);
     let mut stream = [165u8; 1024];
-    match sqv4::encode_interleaved(
+    match encoder::encode_interleaved(
         samples,
         byte_at(q, 3),
         word_at(q, 4),
@@ -157,7 +157,7 @@ fn ask_inspect(q: &[u8], out: &mut [u8]) -> usize {
 // Kind 3: a stream. A result: 1, and the samples.
 fn ask_decode(q: &[u8], out: &mut [u8]) -> usize {
     let mut pcm = [0i16; 1024];
-    match sqv4::decode(tail(q, 1), &mut pcm) {
+    match decoder::decode(tail(q, 1), &mut pcm) {
         Decoded::Filled(h) => {
             let n = (h.samples as usize) * (h.channels as usize);
             let at = put(out, 0, 1);

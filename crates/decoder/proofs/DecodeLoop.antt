@@ -1,0 +1,124 @@
+-- Whole-stream decoding as a loop does it, fragment by fragment in file order with one state for each channel, gives the
+-- definition's samples, which go channel by channel. Assumes nothing.
+use mathlib.Core.Path.{_≡_, refl, sym, _∙_, ap}
+use Prim.Native.Nat.{ℕ, zero, suc, _+_, _*_, _-_, _/_, _%_, _≤_, _<_}
+use native.Mathlib.Omega.{arith}
+use native.Mathlib.Numerals.{add-one}
+use native.Mathlib.Nat.{div-add-mod', mod-lt}
+use mathlib.Core.List.{List, _++_}
+use lib.Arith.{digits-div, digits-mod}
+use borrow.Author.Tests.{le-leb, eq-eqb}
+use mathlib.Core.Bool.{true}
+use lib.Dec.{leb, eqb}
+use lib.Seq.{take-at}
+use Rattle.outcome.proofs.Flags.{both-true}
+use lib.IntN.{ℤ, pos}
+use lib.ListN.{length, getD, take, drop, set}
+use Rattle.lists.proofs.ByIndex.{tabulate-ext}
+use Rattle.format.specs.Layout.{wholeFrame, frames, count, sizeIn, streamLength, fragmentAtPlace, fragmentAt}
+use Rattle.format.specs.Decode.{zeroState, InRange, decodedFragment, stateBefore, frameDecoded, channelSample, decoded, fragmentFits}
+use Rattle.format.proofs.Sizes.{frame-pos, count-whole, place-length}
+use Rattle.decoder.specs.Loops.{spread, outAfter, statesAfter, placeDecoded, startStates, loopStates, loopSamples, loopOut}
+use Rattle.format.proofs.Range.{before-range, length-decoded}
+use Rattle.decoder.proofs.Interleave.{out-whole, spread-take, length-outAfter}
+use Rattle.decoder.proofs.Turns.{chain, turn-state}
+use Rattle.format.specs.declared.State.{State}
+use Rattle.format.specs.declared.Header.{Header}
+
+module _ (h : Header) (d : List ℕ) (hc : 0 < h .channels) where
+  chain-before : (k f : ℕ) → k < h .channels → chain zeroState (h .channels) (λ q s. placeDecoded h d q s .state) k f ≡ stateBefore h (fragmentAt h d k) f
+  unfolding chain stateBefore
+  chain-before k zero hk = refl
+  chain-before k (suc f) hk =
+      ap (λ n. decodedFragment (h .version) (h .variant) (chain zeroState (h .channels) (λ q s. placeDecoded h d q s .state) k f) (fragmentAt h d k f) (count h n) .state) (digits-div f hk)
+      ∙ ap (λ s. decodedFragment (h .version) (h .variant) s (fragmentAt h d k f) (count h f) .state) (chain-before k f hk)
+
+  module _ (states : List State) (room : h .channels ≤ length states) (fresh : (k : ℕ) → k < h .channels → getD states k zeroState ≡ zeroState) where
+    -- the state that turn p finds is the definition's
+    pub turn-before : (p : ℕ) → getD (loopStates h d states p) (p % h .channels) zeroState ≡ stateBefore h (fragmentAt h d (p % h .channels)) (p / h .channels)
+    turn-before p =
+        turn-state zeroState (h .channels) (λ q s. placeDecoded h d q s .state) states hc room fresh p
+        ∙ chain-before (p % h .channels) (p / h .channels) (mod-lt p hc)
+
+    turn-samples : (p : ℕ) → loopSamples h d states p ≡ frameDecoded h (fragmentAt h d (p % h .channels)) (p / h .channels) .samples
+    turn-samples p =
+        ap (λ s. placeDecoded h d p s .samples) (turn-before p)
+        ∙ ap (λ n. decodedFragment (h .version) (h .variant) (stateBefore h (fragmentAt h d (p % h .channels)) (p / h .channels)) (fragmentAtPlace h d n) (count h (p / h .channels)) .samples)
+        (sym (div-add-mod' p (h .channels)))
+
+    place-samples : (f k : ℕ) → k < h .channels → loopSamples h d states (f * h .channels + k) ≡ frameDecoded h (fragmentAt h d k) f .samples
+    place-samples f k hk =
+        turn-samples (f * h .channels + k)
+        ∙ ap (λ n. frameDecoded h (fragmentAt h d n) ((f * h .channels + k) / h .channels) .samples) (digits-mod f hk)
+        ∙ ap (λ n. frameDecoded h (fragmentAt h d k) n .samples) (digits-div f hk)
+
+    -- after its last turn the loop has written the definition's samples, and nothing behind them
+    pub loop-decodes : (o : List ℤ) → h .samples * h .channels ≤ length o
+        → loopOut h d states o (frames h * h .channels) ≡ decoded h d ++ drop (h .samples * h .channels) o
+    unfolding frames decoded channelSample
+    loop-decodes o l =
+        out-whole (pos 0) (h .channels) (wholeFrame h) (h .samples) (loopSamples h d states) hc (frame-pos h) o l
+        ∙ ap (λ x. x ++ drop (h .samples * h .channels) o)
+        (tabulate-ext _ _ (h .samples * h .channels)
+        (λ j m. ap (λ x. getD x (j / h .channels % wholeFrame h) (pos 0)) (place-samples (j / h .channels / wholeFrame h) (j % h .channels) (mod-lt j hc))))
+
+-- ---- the loop with its two states
+
+pub fresh : (k : ℕ) → k < 2 → getD startStates k zeroState ≡ zeroState
+fresh zero h = refl
+fresh (suc zero) h = refl
+fresh (suc (suc k)) h = let z : ⊥ = omega arith in absurd z
+
+module _ (h : Header) (d : List ℕ) (o : List ℤ) where
+  -- after p fragments
+  pub record Decoding (p : ℕ) (out : List ℤ) (states : List State) : Type 0 where
+    pub out-is : out ≡ loopOut h d startStates o p
+    pub states-are : states ≡ loopStates h d startStates p
+
+  pub decoding-none : Decoding 0 o startStates
+  unfolding outAfter statesAfter
+  decoding-none = record { out-is = refl; states-are = refl }
+
+  pub length-decoding : {p : ℕ} {out : List ℤ} {states : List State} → Decoding p out states → length out ≡ length o
+  length-decoding {p} k = ap length (k .out-is) ∙ length-outAfter (pos 0) (h .channels) (wholeFrame h) (h .samples) (loopSamples h d startStates) o p
+
+  -- the state that a turn finds is one of a decoding
+  pub decoding-range : (p : ℕ) {out : List ℤ} {states : List State} → 0 < h .channels → h .channels ≤ 2 → Decoding p out states
+      → InRange (getD states (p % h .channels) zeroState)
+  decoding-range p hc h2 k =
+      rw (k .states-are, turn-before h d hc startStates h2 (λ i l. fresh i (omega arith)) p) (before-range h (fragmentAt h d (p % h .channels)) (p / h .channels))
+
+  pub decoding-more : (p n : ℕ) {out : List ℤ} {states : List State} (samples r : List ℤ) (next : State) (whole : ℕ) → Decoding p out states
+      → whole ≡ wholeFrame h → n ≡ count h (p / h .channels)
+      → take (count h (p / h .channels)) samples ≡ placeDecoded h d p (getD states (p % h .channels) zeroState) .samples
+      → next ≡ placeDecoded h d p (getD states (p % h .channels) zeroState) .state
+      → r ≡ spread (pos 0) out samples (p / h .channels * whole) (h .channels) (p % h .channels) n
+      → Decoding (p + 1) r (set states (p % h .channels) next)
+  unfolding outAfter statesAfter count
+  decoding-more p n {out} {states} samples r next whole k ew en es et er =
+      record {
+        out-is = rw add-one
+            (er ∙ rw (ew, en)
+            (sym (spread-take (pos 0) out samples (p / h .channels * wholeFrame h) (h .channels) (p % h .channels) (count h (p / h .channels)) (count h (p / h .channels)) (omega arith))
+            ∙ rw (es, k .out-is, k .states-are)));
+        states-are = rw (add-one, et, k .states-are);
+      }
+
+-- ---- one place
+
+module _ (h : Header) (d : List ℕ) (p : ℕ) {fragment : List ℕ} (e : fragment ≡ fragmentAtPlace h d p) {n m : ℕ} (en : n ≡ count h (p / h .channels)) (em : m ≡ n) where
+  pub place-fits : length d ≡ streamLength h → p < frames h * h .channels → fragmentFits (h .version) (h .variant) fragment m ≡ true
+  unfolding fragmentFits
+  place-fits size l =
+      rw (em, en, e)
+      (both-true (eqb (length (fragmentAtPlace h d p)) (sizeIn h)) (leb (count h (p / h .channels)) (wholeFrame h))
+      (eq-eqb _ _ (place-length h d p size l)) (le-leb _ _ (count-whole h (p / h .channels))))
+
+  pub place-front : (s : State) (new rest : List ℤ) → new ≡ decodedFragment (h .version) (h .variant) s fragment m .samples
+      → take (count h (p / h .channels)) (new ++ rest) ≡ placeDecoded h d p s .samples
+  place-front s new rest en′ =
+      let k = rw (em, en, e) at en′ in
+      rw k (take-at (placeDecoded h d p s .samples) rest (count h (p / h .channels)) (length-decoded (h .version) (h .variant) s (fragmentAtPlace h d p) (count h (p / h .channels))))
+
+  pub place-state : (s next : State) → next ≡ decodedFragment (h .version) (h .variant) s fragment m .state → next ≡ placeDecoded h d p s .state
+  place-state s next en′ = rw (em, en, e) at en′

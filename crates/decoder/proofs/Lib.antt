@@ -1,0 +1,4 @@
+pub mod Interleave
+pub mod Turns
+pub mod DecodeLoop
+pub mod Decoding

@@ -1,0 +1,2 @@
+pub mod EncodeLoop
+pub mod Encoding
