@@ -162,10 +162,6 @@ module _ (w n : ℕ) (codes : List ℕ) (small : Small w codes) (room : w * leng
   pub unpacked-packed : unpacked w (length codes) (packed w n codes) ≡ codes
   unpacked-packed = ap (digits w (length codes)) (number-regroup w 8 n codes small room) ∙ digits-number w codes small
 
-  -- of more codes, the first
-  pub unpacked-first : (m : ℕ) → length codes ≤ m → take (length codes) (unpacked w m (packed w n codes)) ≡ codes
-  unpacked-first m le = take-digits w (length codes) m (number 8 (packed w n codes)) le ∙ unpacked-packed
-
   -- the bits past the codes are zero
   pub rest-packed : restZero (w * length codes) (packed w n codes) ≡ true
   rest-packed =
@@ -284,11 +280,6 @@ number-take w (d ∷ ds) h (suc m) =
     ∙ sym (turn (2 ^ w) d (number w ds % 2 ^ (w * m)))
     ∙ ap (λ (x : ℕ). d + 2 ^ w * x) (number-take w ds (λ i. h (suc i)) m)
 
--- the number of the m digits from place k on is the bits there: a part's own number, and a wider digit
-pub number-group : (w : ℕ) (ds : List ℕ) → Small w ds → (m k : ℕ) → bitsAt (w * m) (w * k) (number w ds) ≡ number w (take m (drop k ds))
-number-group w ds h m k =
-    ap (λ (y : ℕ). y % 2 ^ (w * m)) (number-drop w ds h k) ∙ number-take w (drop k ds) (small-drop w ds h k) m
-
 -- the number of the n + 1 digits from a place on
 pub number-part : (w n : ℕ) (ds : List ℕ) (at : ℕ) → at < length ds
     → number w (take (suc n) (drop at ds)) ≡ getD ds at 0 + 2 ^ w * number w (take n (drop (suc at) ds))
@@ -304,9 +295,6 @@ field-stored n x at l rest h =
     ∙ ap (λ (t : List ℕ). number 8 (take n t)) (drop-at (take at l) (stored n x ++ rest) at (length-take-le at l h))
     ∙ ap (number 8) (take-at (stored n x) rest n (length-digits 8 n x))
     ∙ number-digits 8 n x
-
-pub field-stored-all : (n x at : ℕ) (l rest : List ℕ) → at ≤ length l → x < 2 ^ (8 * n) → field n at (take at l ++ stored n x ++ rest) ≡ x
-field-stored-all n x at l rest h fits = field-stored n x at l rest h ∙ mod-eq-of-lt fits
 
 -- a number that was read and is stored gives its bytes
 pub stored-field : (n at : ℕ) (bytes : List ℕ) → Small 8 bytes → at + n ≤ length bytes → stored n (field n at bytes) ≡ take n (drop at bytes)

@@ -2,8 +2,8 @@
 use mathlib.Core.Path.{_≡_, refl, sym, _∙_, ap}
 use mathlib.Core.List.{List, [], _∷_}
 use Prim.Native.Nat.{ℕ}
-use lib.ListN.{getD}
-use Rattle.format.specs.Answers.{numberOf, valuesOf, inspectedOf, encodedOf, decodedOf, fragmentDecodedOf}
+use lib.ListN.{getD, take}
+use Rattle.format.specs.Answers.{numberOf, valuesOf, given, inspectedOf, encodedOf, decodedOf, fragmentDecodedOf}
 use Rattle.format.specs.declared.Error.{Error}
 use Rattle.format.specs.declared.Error.the-variants.{InvalidChannels, ZeroSampleRate, MisalignedInterleavedSamples, TooManySamples, InvalidVariant, TruncatedHeader, InvalidMagic, UnsupportedVersion, InvalidReservedByte, InvalidFileLength, InvalidStepIndex, NonZeroPadding, OutputTooShort, InvalidFragment, InvalidState}
 use Rattle.format.specs.declared.Inspected.{Inspected}
@@ -46,6 +46,25 @@ back InvalidState = refl
 
 pub error-once : (a b : Error) → numberOf a ≡ numberOf b → valuesOf a ≡ valuesOf b → a ≡ b
 error-once a b e f = sym (back a) ∙ rw (e, f) (back b)
+
+-- no refusal returns more than two numbers, so those that the code gives are all of them
+pub values-shown : (e : Error) → take (given (valuesOf e) .count) (given (valuesOf e) .first ∷ given (valuesOf e) .second ∷ []) ≡ valuesOf e
+unfolding valuesOf
+values-shown (InvalidChannels b) = refl
+values-shown ZeroSampleRate = refl
+values-shown MisalignedInterleavedSamples = refl
+values-shown TooManySamples = refl
+values-shown (InvalidVariant b) = refl
+values-shown TruncatedHeader = refl
+values-shown InvalidMagic = refl
+values-shown (UnsupportedVersion b) = refl
+values-shown (InvalidReservedByte b) = refl
+values-shown (InvalidFileLength expected actual) = refl
+values-shown (InvalidStepIndex b) = refl
+values-shown NonZeroPadding = refl
+values-shown (OutputTooShort needed) = refl
+values-shown InvalidFragment = refl
+values-shown InvalidState = refl
 
 pub inspected-once : (a b : Inspected) → inspectedOf a ≡ inspectedOf b → a ≡ b
 unfolding inspectedOf

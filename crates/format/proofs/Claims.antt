@@ -1,14 +1,14 @@
 -- What is proved of the definitions: each claim under the sentence of 01 or of the demands that it renders. The contracts of the
 -- entry points cite the same definitions, so the claims speak of running code as soon as a contract is met. Assumes nothing.
 use mathlib.Core.Path.{_≡_}
-use mathlib.Core.Bool.{true}
+use mathlib.Core.Bool.{Bool, true}
 use mathlib.Core.List.{List, map}
 use Prim.Native.Nat.{ℕ, _*_, _/_, _^_, _≤_, _<_}
 use lib.Dec.{T}
 use lib.IntN.{ℤ, pos, natAbs, _-ℤ_, _*ℤ_}
 use lib.Signed.{mag, quotZ}
 use lib.ListN.{length, getD}
-use Rattle.outcome.specs.Outcome.{result, Refuses}
+use Rattle.outcome.specs.Outcome.{Outcome, result, refused, Refuses}
 use Rattle.signed.specs.Signed.{onMagnitude}
 use Rattle.signed.proofs.Laws.{quot-on}
 use Rattle.format.specs.Layout.{anew, frames, streamLength, fragmentAt}
@@ -17,6 +17,7 @@ use Rattle.format.specs.Decode.{zeroState, InRange, stateBefore, fragmen
 use Rattle.format.specs.Encode.{channel, headerWritten, encoded, encodeCall}
 use Rattle.format.specs.Inspect.{Sound, inspected, decodeCall}
 use Rattle.format.specs.Calls.{Call, Listed, Separate}
+use Rattle.format.specs.Tests.{gives, refuses}
 use Rattle.format.specs.Cases.{cases, further}
 use Rattle.format.specs.Answers.{numberOf, valuesOf}
 use Rattle.format.proofs.Encoder.{Alone}
@@ -38,6 +39,13 @@ starred-cases = proofs.Checks.cases-hold
 -- what the cases leave open: tables, slips of other players, a tie, a last partial frame, 13, 14, 15, the order of checks
 pub further-checks : T further
 further-checks = proofs.Checks.further-hold
+
+-- what the tests of an outcome in these checks tell: it is a result that passes, or that very refusal
+pub result-tested : {A : Type 0} (f : A → Bool) (P : Outcome A → Type 0) → ((a : A) → T (f a) → P (result a)) → (o : Outcome A) → T (gives f o) → P o
+result-tested = proofs.Checks.gives-means
+
+pub refusal-tested : {A : Type 0} (n : ℕ) (vs : List ℕ) (o : Outcome A) → T (refuses n vs o) → o ≡ refused n vs
+refusal-tested = proofs.Checks.refuses-means
 
 -- ---- rounding and gain
 

@@ -4,7 +4,7 @@ use mathlib.Core.Path.{_≡_}
 use Prim.Native.Nat.{ℕ}
 use mathlib.Core.List.{List, [], _∷_}
 use lib.IntN.{ℤ}
-use lib.ListN.{length}
+use lib.ListN.{length, getD}
 use Rattle.outcome.specs.Outcome.{Outcome, result, refused, onResult, outputAfter}
 use Rattle.format.specs.Decode.{DecodedFragment, called}
 use Rattle.format.specs.Encode.{encodeCall}
@@ -15,6 +15,7 @@ use Rattle.format.specs.declared.Header.{Header}
 use Rattle.format.specs.declared.Settings.{Settings}
 use Rattle.format.specs.declared.Error.{Error}
 use Rattle.format.specs.declared.Error.the-variants.{InvalidChannels, ZeroSampleRate, MisalignedInterleavedSamples, TooManySamples, InvalidVariant, TruncatedHeader, InvalidMagic, UnsupportedVersion, InvalidReservedByte, InvalidFileLength, InvalidStepIndex, NonZeroPadding, OutputTooShort, InvalidFragment, InvalidState}
+use Rattle.format.specs.declared.Values.{Values}
 use Rattle.format.specs.declared.Inspected.{Inspected}
 use Rattle.format.specs.declared.Inspected.the-variants as I
 use Rattle.format.specs.declared.Encoded.{Encoded}
@@ -57,6 +58,10 @@ valuesOf NonZeroPadding = []
 valuesOf (OutputTooShort needed) = needed ∷ []
 valuesOf InvalidFragment = []
 valuesOf InvalidState = []
+
+-- returned numbers as the code gives them: how many there are, and the first two, 0 where there are none
+abbrev pub given : List ℕ → Values
+given vs = record { count = length vs; first = getD vs 0 0; second = getD vs 1 0 }
 
 abbrev pub refusal : {A : Type 0} → Error → Outcome A
 refusal e = refused (numberOf e) (valuesOf e)

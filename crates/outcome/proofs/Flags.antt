@@ -3,13 +3,10 @@ use mathlib.Core.Path.{_≡_, refl, sym, _∙_, subst}
 use mathlib.Core.Bool.{Bool, true, false, _&&_, _||_}
 use lib.Dec.{T}
 
--- a computed test, as an equation and back
+-- a computed test, as an equation
 pub T-true : (b : Bool) → T b → b ≡ true
 T-true true t = refl
 T-true false t = absurd t
-
-pub true-T : (b : Bool) → b ≡ true → T b
-true-T b e = subst T (sym e) tt
 
 -- no test is both
 pub not-both : (b : Bool) → b ≡ true → b ≡ false → ⊥

@@ -92,19 +92,12 @@ sum-fits a b h = record { sfits = omega (arith, mag-le (a +ℤ b), natAbs-add a 
 pub diff-fits : (a b : ℤ) → natAbs a + natAbs b < 2 ^ 31 → SFits w32 (a -ℤ b)
 diff-fits a b h = record { sfits = omega (arith, mag-le (a -ℤ b), natAbs-sub a b) }
 
-pub product-fits : (a b : ℤ) → natAbs a * natAbs b < 2 ^ 31 → SFits w32 (a *ℤ b)
-product-fits a b h = record { sfits = omega (arith, mag-le (a *ℤ b), natAbs-mul a b) }
-
 -- ---- what a local of a signed type holds is read back: of a parameter x, `toZ-ofZ (c .fits .x)`; of a call's result, `back32 (c .f .result) (c .f .ok)`
 pub back32 : (z : ℤ) → mag z < 2 ^ 31 → toZ w32 (ofZ w32 z) ≡ z
 back32 z h = toZ-ofZ (sfits32 h)
 
 pub back16 : (z : ℤ) → mag z < 2 ^ 15 → toZ w16 (ofZ w16 z) ≡ z
 back16 z h = toZ-ofZ (record { sfits = h })
-
--- of a number that is known to be not negative, as a table's entry
-pub back-pos : (z : ℤ) → z ≡ pos (natAbs z) → natAbs z < 2 ^ 31 → toZ w32 (ofZ w32 z) ≡ pos (natAbs z)
-back-pos z e h = back32 z (omega (arith, mag-le z)) ∙ e
 
 -- of a cast from an unsigned type
 pub up32 : (n : ℕ) → n < 2 ^ 31 → toZ w32 n ≡ pos n
@@ -130,10 +123,6 @@ on-pos f n = refl
 pub on-neg : (f : ℕ → ℕ) (n : ℕ) → onMagnitude f (negsuc n) ≡ negℤ (pos (f (suc n)))
 unfolding onMagnitude isNeg withSign
 on-neg f n = refl
-
-pub natAbs-on : (f : ℕ → ℕ) (z : ℤ) → natAbs (onMagnitude f z) ≡ f (natAbs z)
-unfolding onMagnitude
-natAbs-on f z = natAbs-withSign (isNeg z) (f (natAbs z))
 
 pub mag-on : (f : ℕ → ℕ) (z : ℤ) → f (natAbs z) ≤ natAbs z → mag (onMagnitude f z) ≤ mag z
 unfolding onMagnitude

@@ -108,39 +108,39 @@ none-requires-8 c κs = search needs
 
 returns : tie.Need-returns
 unfolding valuesOf
-returns c = rw (c .one .ensures .0, c .one .ensures .1, c .before .before .self .given .1)
+returns c = rw (c .one .ensures, c .before .before .self .given .1)
 
 returns-2 : tie.Need-returns-2
 unfolding valuesOf
-returns-2 c = rw (c .none .ensures .0, c .before .enum-told .given .1)
+returns-2 c = rw (c .none .ensures, c .before .enum-told .given .1)
 
 returns-3 : tie.Need-returns-3
 unfolding valuesOf
-returns-3 c = rw (c .none2 .ensures .0, c .before .enum-told2 .given .1)
+returns-3 c = rw (c .none2 .ensures, c .before .enum-told2 .given .1)
 
 returns-4 : tie.Need-returns-4
 unfolding valuesOf
-returns-4 c = rw (c .none3 .ensures .0, c .before .enum-told3 .given .1)
+returns-4 c = rw (c .none3 .ensures, c .before .enum-told3 .given .1)
 
 returns-5 : tie.Need-returns-5
 unfolding valuesOf
-returns-5 c = rw (c .one2 .ensures .0, c .one2 .ensures .1, c .before .before .self2 .given .1)
+returns-5 c = rw (c .one2 .ensures, c .before .before .self2 .given .1)
 
 returns-6 : tie.Need-returns-6
 unfolding valuesOf
-returns-6 c = rw (c .none4 .ensures .0, c .before .enum-told4 .given .1)
+returns-6 c = rw (c .none4 .ensures, c .before .enum-told4 .given .1)
 
 returns-7 : tie.Need-returns-7
 unfolding valuesOf
-returns-7 c = rw (c .none5 .ensures .0, c .before .enum-told5 .given .1)
+returns-7 c = rw (c .none5 .ensures, c .before .enum-told5 .given .1)
 
 returns-8 : tie.Need-returns-8
 unfolding valuesOf
-returns-8 c = rw (c .one3 .ensures .0, c .one3 .ensures .1, c .before .before .self3 .given .1)
+returns-8 c = rw (c .one3 .ensures, c .before .before .self3 .given .1)
 
 returns-9 : tie.Need-returns-9
 unfolding valuesOf
-returns-9 c = rw (c .one4 .ensures .0, c .one4 .ensures .1, c .before .before .self4 .given .1)
+returns-9 c = rw (c .one4 .ensures, c .before .before .self4 .given .1)
 
 returns-10 : tie.Need-returns-10
 unfolding valuesOf
@@ -148,23 +148,23 @@ returns-10 c = rw (c .before .self5 .given .1)
 
 returns-11 : tie.Need-returns-11
 unfolding valuesOf
-returns-11 c = rw (c .one5 .ensures .0, c .one5 .ensures .1, c .before .before .self6 .given .1)
+returns-11 c = rw (c .one5 .ensures, c .before .before .self6 .given .1)
 
 returns-12 : tie.Need-returns-12
 unfolding valuesOf
-returns-12 c = rw (c .none6 .ensures .0, c .before .enum-told6 .given .1)
+returns-12 c = rw (c .none6 .ensures, c .before .enum-told6 .given .1)
 
 returns-13 : tie.Need-returns-13
 unfolding valuesOf
-returns-13 c = rw (c .one6 .ensures .0, c .one6 .ensures .1, c .before .before .self7 .given .1)
+returns-13 c = rw (c .one6 .ensures, c .before .before .self7 .given .1)
 
 returns-14 : tie.Need-returns-14
 unfolding valuesOf
-returns-14 c = rw (c .none7 .ensures .0, c .before .enum-told7 .given .1)
+returns-14 c = rw (c .none7 .ensures, c .before .enum-told7 .given .1)
 
 returns-15 : tie.Need-returns-15
 unfolding valuesOf
-returns-15 c = rw (c .none8 .ensures .0, c .before .enum-told8 .given .1)
+returns-15 c = rw (c .none8 .ensures, c .before .enum-told8 .given .1)
 
 pub values-spec : {M : Type 1} → statement M
 values-spec =
