@@ -30,7 +30,7 @@ fn put_fragments(out: &mut [u8], at: usize, file: &[u8], h: Header) -> usize
     requires { ⌜ (0 < h .channels) × (length (now file) ≡ streamLength h) × (at + frames h * h .channels * 128 ≤ length (now out)) ⌝ }
     ensures { λ r. ⌜ Put (now (out .entry)) at (joined (fragmentLine h (now (file .entry))) (frames h * h .channels)) (now (out .exit)) r ⌝ }
 {
-    let fragments = inspect::fragment_count(h);
+    let fragments = layout::fragment_count(h);
     let mut next = at;
     let mut p = 0;
     while p < fragments {

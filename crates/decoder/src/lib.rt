@@ -49,10 +49,10 @@ fn decode_place(file: &[u8], h: Header, p: usize, state: State) -> Placed
 {
     let variant = h.variant;
     let channels = h.channels as usize;
-    let n = inspect::count_at(h, p / channels);
-    let fragment = inspect::fragment_at(file, h, p);
+    let n = layout::count_at(h, p / channels);
+    let fragment = layout::fragment_at(file, h, p);
     let mut samples = [0i16; 64];
-    let next = fragment::decode_checked(h.version, variant, state, fragment, &mut samples[..n]);
+    let next = fragment_core::decode_checked(h.version, variant, state, fragment, &mut samples[..n]);
     Placed {
         samples,
         state: next,
@@ -66,7 +66,7 @@ fn decode_fragments(file: &[u8], h: Header, out: &mut [i16])
 {
     let channels = h.channels as usize;
     let whole = format::frame_samples(h.version);
-    let fragments = inspect::fragment_count(h);
+    let fragments = layout::fragment_count(h);
     let zero = State {
         predictor: 0,
         index: 0,
@@ -76,7 +76,7 @@ fn decode_fragments(file: &[u8], h: Header, out: &mut [i16])
     while p < fragments {
         let channel = p % channels;
         let f = p / channels;
-        let n = inspect::count_at(h, f);
+        let n = layout::count_at(h, f);
         let s = states[channel];
         let r = decode_place(file, h, p, s);
         let next = r.state;

@@ -129,7 +129,7 @@ fn encode_fragments(settings: Settings, pcm: &[i16], channels: usize, out: &mut 
 pub fn encode(settings: Settings, pcm: &[i16], channels: u8, rate: u32, out: &mut [u8]) -> Encoded
     ensures { λ r. ⌜ AsEncoded settings (now (pcm .entry)) channels rate (now (out .entry)) r (now (out .exit)) ⌝ }
 {
-    if !inspect::channels_fit(VERSION, channels) {
+    if !layout::channels_fit(VERSION, channels) {
         return Encoded::Refused(Error::InvalidChannels(channels));
     }
     if rate == 0 {
@@ -144,7 +144,7 @@ pub fn encode(settings: Settings, pcm: &[i16], channels: u8, rate: u32, out: &mu
         return Encoded::Refused(Error::TooManySamples);
     }
     let h = header_for(settings, channels, rate, samples as u32);
-    let needed = inspect::stream_length(h);
+    let needed = layout::stream_length(h);
     if out.len() < needed {
         return Encoded::Refused(Error::OutputTooShort(needed));
     }

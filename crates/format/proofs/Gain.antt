@@ -1,7 +1,7 @@
 -- What rounding means, when the volume is 0, and what the gain stage does to a sample. Assumes nothing.
 use mathlib.Core.Path.{_≡_, refl, sym, _∙_, ap, subst}
 use mathlib.Core.List.{List, map}
-use Prim.Native.Nat.{ℕ, zero, suc, _+_, _*_, _-_, _/_, _%_, _≤_, _<_, max}
+use Prim.Native.Nat.{ℕ, zero, suc, _+_, _*_, _/_, _%_, _≤_, _<_, max}
 use native.Mathlib.Omega.{arith}
 use native.Mathlib.Nat.{div-add-mod', mod-lt, mul-le-mul-left, zero-mul, zero-div, lt-of-mul-lt-mul-right}
 use native.Mathlib.Decide.{decLt}

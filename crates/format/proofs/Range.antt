@@ -1,15 +1,15 @@
 -- States stay in range, and a fragment decoder call that the table does not refuse. Assumes nothing.
 use mathlib.Core.Path.{_≡_, refl, sym, _∙_}
-use mathlib.Core.Bool.{Bool, true, false, cond}
+use mathlib.Core.Bool.{Bool, true, false, cond, _&&_}
 use mathlib.Core.List.{List, [], _∷_}
-use Prim.Native.Nat.{ℕ, zero, suc, _≤_}
+use Prim.Native.Nat.{ℕ, zero, suc, _≤_, _<_}
 use native.Mathlib.Omega.{arith}
-use borrow.Author.Tests.{le-leb, eq-eqb}
+use borrow.Author.Tests.{le-leb, lt-leb, leb-true, eq-eqb, eqb-true}
 use lib.Dec.{leb, eqb}
 use lib.Signed.{mag}
 use lib.ListN.{length, getD}
 use Rattle.outcome.specs.Outcome.{Outcome, result, need, Refuses}
-use Rattle.outcome.proofs.Flags.{both-true, either-right}
+use Rattle.outcome.proofs.Flags.{both-true, both-left, both-right, either-right}
 use Rattle.outcome.proofs.Laws.{pass}
 use Rattle.lists.proofs.ByIndex.{length-tabulate}
 use Rattle.signed.proofs.Laws.{clamp-fits, clampTo-le}
@@ -103,3 +103,29 @@ refused-anyway version variant s t fragment n r w =
     go true false c e w = tt
     go true true true e w = absurd w
     go true true false e w = absurd (Rattle.outcome.proofs.Flags.not-both false e refl)
+
+-- ---- what the checks tell
+
+-- version 3 is the last known one
+pub known-three : (version : ℕ) → knownVersion version ≡ true → 3 ≤ version → version ≡ 3
+unfolding knownVersion
+known-three version k h = let l = leb-true version 3 (both-right (leb 1 version) (leb version 3) k) in omega arith
+
+-- the fragment has its size, and the output is not too long
+pub fits-size : (version : ℕ) (variant : Variant) (fragment : List ℕ) (n : ℕ) → fragmentFits version variant fragment n ≡ true
+    → (length fragment ≡ fragmentSize version variant) × (n ≤ frameSamples version)
+unfolding fragmentFits
+fits-size version variant fragment n e = (
+  eqb-true _ _ (both-left _ _ e),
+  leb-true _ _ (both-right (eqb (length fragment) (fragmentSize version variant)) _ e),
+)
+
+-- in versions 1, 2 a state that fits is in range
+pub fits-range : (version : ℕ) (s : State) → version < 3 → stateFits version s ≡ true → InRange s
+unfolding stateFits
+fits-range version s h e =
+    let f : (leb (mag (s .predictor)) 32767 && leb (s .index) 88) ≡ true = rw (lt-leb 3 version h) at e in
+    record {
+      predictor = leb-true _ _ (both-left _ _ f);
+      index = leb-true _ _ (both-right (leb (mag (s .predictor)) 32767) _ f);
+    }

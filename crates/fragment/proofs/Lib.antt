@@ -1,4 +1,2 @@
-pub mod Run
-pub mod Fragments
 pub mod Calls
 pub mod Local

@@ -3,13 +3,11 @@ use Prim.Native.Nat.{ℕ, _+_, _*_, _/_, _≤_, _<_}
 use native.Mathlib.Nat.{mul-le-mul-left}
 use native.Mathlib.Omega.{arith}
 use mathlib.Core.Path.{_≡_}
-use mathlib.Core.Bool.{cond}
 use lib.IntN.{ℤ, natAbs}
 use lib.Signed.{mag}
 use borrow.Author.Tests.{lt-leb}
 use Rattle.signed.specs.Signed.{isNeg, withSign, onMagnitude}
-use Rattle.signed.proofs.Laws.{mag-on, mag-withSign, clamp-fits, cond-ind}
-use Rattle.format.specs.Layout.{anew}
+use Rattle.signed.proofs.Laws.{mag-withSign, clamp-fits}
 use Rattle.format.specs.Gain.{nearest, normalised, outputGain}
 
 -- a gain of at most 1, cut or to nearest, does not raise a magnitude

@@ -1,37 +1,16 @@
--- Where fragments lie, and the fragments' checks in file order. Assumes nothing.
+-- The fragments' checks in file order. Assumes nothing.
 use mathlib.Core.Path.{_≡_, sym, ap, _∙_}
 use mathlib.Core.List.{List}
-use Prim.Native.Nat.{ℕ, _+_, _-_, _*_, _/_, _≤_, _<_}
-use native.Mathlib.Omega.{arith}
+use Prim.Native.Nat.{ℕ, _+_, _/_, _<_}
 use native.Mathlib.Numerals.{add-one}
-use native.Mathlib.Nat.{mul-le-mul-right, add-sub-cancel-left}
-use lib.ListN.{length, take, drop}
 use Rattle.outcome.specs.Outcome.{Outcome, result, inOrder}
 use Rattle.outcome.proofs.Laws.{cleared, passed, order-next, order-refused}
-use Rattle.format.specs.Layout.{frames, sizeIn, streamLength, fragmentAtPlace}
+use Rattle.format.specs.Layout.{fragmentAtPlace}
 use Rattle.format.specs.Inspect.{fragmentChecks}
 use Rattle.format.specs.Answers.{inspectedOf}
 use Rattle.format.specs.declared.Header.{Header}
 use Rattle.format.specs.declared.Error.{Error}
 use Rattle.format.specs.declared.Inspected.the-variants.{Accepted, Refused}
-use Rattle.format.proofs.Sizes.{payload-few, place-length}
-
--- ---- fragments
-
--- the part of a stream from a fragment's first byte to its end, as a part of a slice is given
-pub part-place : (h : Header) (d : List ℕ) (p : ℕ) → take (16 + p * sizeIn h + sizeIn h - (16 + p * sizeIn h)) (drop (16 + p * sizeIn h) d) ≡ fragmentAtPlace h d p
-unfolding fragmentAtPlace
-part-place h d p = rw (add-sub-cancel-left (16 + p * sizeIn h) (sizeIn h))
-
--- a fragment ends in its stream
-pub place-inside : (h : Header) (p : ℕ) → p < frames h * h .channels → 16 + p * sizeIn h + sizeIn h ≤ streamLength h
-place-inside h p l = omega (arith, mul-le-mul-right (sizeIn h) l)
-
--- it holds the bytes before its codes
-pub place-prefix : (h : Header) (d : List ℕ) (p : ℕ) → length d ≡ streamLength h → p < frames h * h .channels → 2 ≤ length (fragmentAtPlace h d p)
-place-prefix h d p e l = rw (place-length h d p e l) (omega (arith, payload-few (h .variant)))
-
--- ---- the fragments in file order
 
 -- the checks of the fragment at place p
 abbrev pub checkAt : Header → List ℕ → ℕ → Outcome Header

@@ -69,11 +69,11 @@ pub fn fragment_line(file: &[u8], h: Header, p: usize) -> Line
 {
     let channels = h.channels as usize;
     let f = p / channels;
-    let fragment = inspect::fragment_at(file, h, p);
+    let fragment = layout::fragment_at(file, h, p);
     let place = Line::empty()
         .number(f as u64)
         .field(b" ", (p % channels) as u64);
-    let count = place.field(b" ", inspect::count_at(h, f) as u64);
+    let count = place.field(b" ", layout::count_at(h, f) as u64);
     let volume = count.field(b" ", fragment[0] as u64);
     index_field(volume.word(b" "), h.version, fragment).word(b"\n")
 }

@@ -1,13 +1,13 @@
 -- The laws of signed numbers: they turn a test or a bound on ℤ into a fact on ℕ, which omega reads. Assumes nothing.
 use mathlib.Core.Path.{_≡_, refl, ap, _∙_}
 use mathlib.Core.Bool.{Bool, true, false, not, cond}
-use lib.Dec.{T, ltb, ltb→lt}
+use lib.Dec.{T, leb, ltb, ltb→lt}
 use native.Mathlib.Nat.{zero-div, le-trans, mul-le-mul-left, mul-le-mul-right}
 use Prim.Native.Nat.{ℕ, zero, suc, _+_, _-_, _*_, _/_, _<_, _≤_, _^_}
 use native.Mathlib.Omega.{arith}
 use lib.IntN.{ℤ, pos, negsuc, negℤ, natAbs, _+ℤ_, _-ℤ_, _*ℤ_, subℕ, +ℤ-idl, +ℤ-one, negℤ-sucℤ}
 use lib.Signed.{mag, ltZ, quotZ, natAbs-le}
-use borrow.Author.Tests.{ltb-true, ltb-false, le-ltb}
+use borrow.Author.Tests.{lt-leb, le-leb, ltb-true, ltb-false, le-ltb}
 use mir.Syntax.{w16, w32}
 use mir.Val.{SFits, toZ, ofZ}
 use mir.Facts.{toZ-ofZ, toZ-pos}
@@ -195,3 +195,17 @@ pub small-read : (z a : ℤ) (m : ℕ) → z ≡ a → natAbs a ≤ m → m < 2 
 small-read z a m e h k =
     let b : toZ w32 (ofZ w32 z) ≡ a = rw e (back32 a (omega (arith, mag-le a))) in
     (b, rw b h)
+
+-- ---- a signed number fits 16 bits, by the two tests of its bounds
+
+pub below-out : (z : ℤ) → ltZ z (negsuc 32767) ≡ true → leb (mag z) 32767 ≡ false
+below-out (pos n) e = cc
+below-out (negsuc n) e = lt-leb n 32767 (ltb-true 32767 n e)
+
+pub above-out : (z : ℤ) → ltZ (pos 32767) z ≡ true → leb (mag z) 32767 ≡ false
+above-out (pos n) e = lt-leb n 32767 (ltb-true 32767 n e)
+above-out (negsuc n) e = cc
+
+pub between-in : (z : ℤ) → ltZ z (negsuc 32767) ≡ false → ltZ (pos 32767) z ≡ false → leb (mag z) 32767 ≡ true
+between-in (pos n) e d = le-leb n 32767 (ltb-false 32767 n d)
+between-in (negsuc n) e d = le-leb n 32767 (ltb-false 32767 n e)

@@ -88,7 +88,7 @@ fn run_trial(
         let variant = settings.variant;
         let sample = xs[i];
         let target = targets[i];
-        let code = adpcm::encode_code(steps, variant, state, target as i32);
+        let code = choice::encode_code(steps, variant, state, target as i32);
         state = adpcm::update(steps, VERSION, variant, state, code);
         codes[i] = code;
         sum += squared_error(sample, state, volume);

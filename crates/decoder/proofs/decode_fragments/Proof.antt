@@ -6,7 +6,7 @@ use native.Mathlib.Omega.{arith}
 use borrow.Author.Needs.{needs}
 use Rattle.format.specs.Layout.{frames}
 use Rattle.decoder.proofs.DecodeLoop.{Decoding, decoding-none, decoding-range, decoding-more, length-decoding}
-use Rattle.inspect.proofs.Places.{frame-of, frame-room}
+use Rattle.layout.proofs.Places.{frame-of, frame-room}
 use Rattle.decoder.proofs.decode_fragments.Statement.{statement}
 use Rattle.decoder.proofs.decode_fragments.Tie as tie
 

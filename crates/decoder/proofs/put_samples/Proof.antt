@@ -9,7 +9,7 @@ use lib.ListN.{length}
 use Rattle.signed.proofs.Laws.{back16}
 use Rattle.decoder.specs.Loops.{spread}
 use Rattle.decoder.proofs.Interleave.{length-spread}
-use Rattle.inspect.proofs.Places.{Place, place-in}
+use Rattle.layout.proofs.Places.{Place, place-in}
 use Rattle.decoder.proofs.put_samples.Statement.{statement}
 use Rattle.decoder.proofs.put_samples.Tie as tie
 

@@ -9,7 +9,7 @@ use Rattle.digits.proofs.Laws.{part-length}
 use Rattle.format.specs.Layout.{fragmentSize}
 use Rattle.lists.proofs.ByIndex.{length-tabulate}
 use Rattle.encoder.proofs.EncodeLoop.{Writing, writing-none, writing-lent, length-writing}
-use Rattle.inspect.proofs.Places.{frame-of, gather-room, spot}
+use Rattle.layout.proofs.Places.{frame-of, gather-room, spot}
 use Rattle.encoder.proofs.encode_fragments.Statement.{statement}
 use Rattle.encoder.proofs.encode_fragments.Tie as tie
 

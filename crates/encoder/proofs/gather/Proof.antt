@@ -8,7 +8,7 @@ use lib.ListN.{length, take, getD, length-set}
 use Rattle.lists.specs.Lists.{tabulate}
 use Rattle.lists.proofs.ByIndex.{fill-next}
 use Rattle.signed.proofs.Laws.{back16}
-use Rattle.inspect.proofs.Places.{Place, place-in}
+use Rattle.layout.proofs.Places.{Place, place-in}
 use Rattle.encoder.proofs.gather.Statement.{statement}
 use Rattle.encoder.proofs.gather.Tie as tie
 

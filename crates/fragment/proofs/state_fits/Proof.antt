@@ -5,7 +5,7 @@ use mir.Facts.{toZ-ofZ}
 use borrow.Author.Needs.{needs}
 use borrow.Author.Tests.{le-leb, lt-leb}
 use Rattle.format.specs.Decode.{stateFits}
-use Rattle.fragment.proofs.Calls.{below-out, above-out, between-in}
+use Rattle.signed.proofs.Laws.{below-out, above-out, between-in}
 use Rattle.fragment.proofs.state_fits.Statement.{statement}
 use Rattle.fragment.proofs.state_fits.Tie as tie
 

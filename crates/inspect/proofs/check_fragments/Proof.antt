@@ -6,7 +6,8 @@ use borrow.Author.Needs.{needs}
 use Rattle.outcome.specs.Outcome.{result, inOrder}
 use Rattle.format.specs.Layout.{frames}
 use Rattle.format.specs.Answers.{inspectedOf}
-use Rattle.inspect.proofs.Laws.{checkAt, place-prefix, one-more, refused-here}
+use Rattle.inspect.proofs.Laws.{checkAt, one-more, refused-here}
+use Rattle.layout.proofs.Places.{place-prefix}
 use Rattle.inspect.proofs.check_fragments.Statement.{statement}
 use Rattle.inspect.proofs.check_fragments.Tie as tie
 

@@ -3,7 +3,7 @@ use native.Mathlib.Omega.{arith}
 use borrow.Author.Needs.{needs}
 use Rattle.lines.proofs.Lines.{fragment-pieces}
 use Rattle.text.specs.Text.{letters}
-use Rattle.inspect.proofs.Laws.{place-prefix}
+use Rattle.layout.proofs.Places.{place-prefix}
 use Rattle.lines.proofs.fragment_line.Statement.{statement}
 use Rattle.lines.proofs.fragment_line.Tie as tie
 
