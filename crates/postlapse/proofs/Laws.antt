@@ -17,14 +17,6 @@ use Rattle.postlapse.specs.Answers.{answerOf, withState}
 use Rattle.postlapse.specs.Promises.{fragmentForC, Fills, Plays, PlaysByValue}
 use Rattle.postlapse.specs.declared.Answer.{Answer}
 
--- a refusal that returns both of two numbers
-pub two-shown : (m n k f s : ℕ) (vs : List ℕ) → m ≡ n → take k (f ∷ s ∷ []) ≡ vs → (k ≡ 0 → ⊥) → (k ≡ 1 → ⊥)
-    → record { refusal = m; first = f; second = s } ≡ answerOf (refused n vs)
-unfolding answerOf
-two-shown m n zero f s vs e t some more = absurd (some refl)
-two-shown m n (suc zero) f s vs e t some more = absurd (more refl)
-two-shown m n (suc (suc k)) f s vs e t some more = rw (e, ← t)
-
 -- the tags of the causes of a WAV refusal but 18, the output too short: none of them returns a number
 abbrev others : List ℕ
 others = 0 ∷ 1 ∷ 2 ∷ 3 ∷ 4 ∷ 5 ∷ 6 ∷ 7 ∷ 8 ∷ 9 ∷ 10 ∷ 11 ∷ 12 ∷ 13 ∷ 14 ∷ 15 ∷ 16 ∷ 17 ∷ 19 ∷ 20 ∷ 21 ∷ []

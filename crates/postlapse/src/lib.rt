@@ -71,20 +71,6 @@ fn refused_answer(error: Error) -> Answer
 {
     let number = error.number() as usize;
     let values = error.values();
-    if values.count == 0 {
-        return Answer {
-            refusal: number,
-            first: 0,
-            second: 0,
-        };
-    }
-    if values.count == 1 {
-        return Answer {
-            refusal: number,
-            first: values.first,
-            second: 0,
-        };
-    }
     Answer {
         refusal: number,
         first: values.first,

@@ -13,7 +13,7 @@ put-refusal-requires : tie.Need-put-refusal-requires
 put-refusal-requires c κs = search needs
 
 returns : tie.Need-returns
-returns c = (counts (c .put-refusal .ensures) (c .put-refusal .kept .0), prints-line _ (short-refused _ (c .before .before .before .if1 .taken)) (rw (c .before .none .ensures .0) at (c .put-refusal .ensures)))
+returns c = (counts (c .put-refusal .ensures) (c .put-refusal .kept .0), prints-line _ (short-refused _ (c .before .before .before .if1 .taken)) (rw (c .before .none .ensures) at (c .put-refusal .ensures)))
 
 none-requires-2 : tie.Need-none-requires-2
 none-requires-2 c κs = search needs
@@ -22,7 +22,7 @@ put-refusal-requires-2 : tie.Need-put-refusal-requires-2
 put-refusal-requires-2 c κs = search needs
 
 returns-2 : tie.Need-returns-2
-returns-2 c = (counts (c .put-refusal2 .ensures) (c .put-refusal2 .kept .0), prints-line _ (long-refused _ (c .before .before .before .before .if1 .left) (c .before .before .before .if2 .taken)) (rw (c .before .none2 .ensures .0) at (c .put-refusal2 .ensures)))
+returns-2 c = (counts (c .put-refusal2 .ensures) (c .put-refusal2 .kept .0), prints-line _ (long-refused _ (c .before .before .before .before .if1 .left) (c .before .before .before .if2 .taken)) (rw (c .before .none2 .ensures) at (c .put-refusal2 .ensures)))
 
 shared-slice-read-variant : tie.Need-shared-slice-read-variant
 shared-slice-read-variant c = search needs
@@ -37,7 +37,7 @@ put-refusal-requires-3 : tie.Need-put-refusal-requires-3
 put-refusal-requires-3 c κs = search needs
 
 returns-3 : tie.Need-returns-3
-returns-3 c = (counts (c .put-refusal3 .ensures) (c .put-refusal3 .kept .0), prints-line _ (variant-refused _ (c .before .before .before .before .before .before .if1 .left) (c .before .before .before .before .before .if2 .left) (c .before .before .before .if3 .taken)) (rw (c .before .one .ensures .0, c .before .one .ensures .1) at (c .put-refusal3 .ensures)))
+returns-3 c = (counts (c .put-refusal3 .ensures) (c .put-refusal3 .kept .0), prints-line _ (variant-refused _ (c .before .before .before .before .before .before .if1 .left) (c .before .before .before .before .before .if2 .left) (c .before .before .before .if3 .taken)) (rw (c .before .one .ensures) at (c .put-refusal3 .ensures)))
 
 from-byte-requires : tie.Need-from-byte-requires
 from-byte-requires c κs = search needs

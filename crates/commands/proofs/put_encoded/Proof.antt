@@ -6,6 +6,7 @@ use borrow.Author.Needs.{needs}
 use Rattle.wav.specs.Samples.{samplesOf}
 use Rattle.wav.proofs.Samples.{length-samples}
 use Rattle.commands.proofs.Printing.{room-enough, encoding-printed, refusal-printed}
+use Rattle.format.proofs.Answers.{values-shown}
 use Rattle.format.specs.Answers.{encodedOf}
 use Rattle.commands.proofs.put_encoded.Statement.{statement}
 use Rattle.commands.proofs.put_encoded.Tie as tie
@@ -58,7 +59,7 @@ unfolding encodedOf
 returns-2 c = let a = c .before .before .before .before .before .before .before .before .before .before .before .before .before .before .before .before .before .before .before .args in
     let e = rw (c .before .before .before .before .before .before .before .before .before .before .before .before .before .before .before .load .ensures .1, c .before .before .before .before .before .before .before .e2 .given .1) at (c .before .before .before .before .before .before .before .before .before .before .before .encode .ensures) in
     let same = room-enough (a .settings) (samplesOf (a .bytes .now)) (a .channels) (a .rate) (rw (length-samples (a .bytes .now)) (omega (arith, c .before .before .before .before .before .before .before .before .before .before .before .before .before .before .before .before .before .before .before .pre .0))) _ (c .before .before .before .before .before .before .before .before .before .before .before .before .before .before .before .before .before .before .before .pre .1) in
-    rw (← same) (refusal-printed _ (e .answered) (e .output-after) (rw (c .before .before .before .before .number .ensures, c .before .before .before .values .ensures) at (c .before .before .put-refusal .ensures)))
+    rw (← same) (refusal-printed _ (e .answered) (e .output-after) (rw (c .before .before .before .before .number .ensures, c .before .before .before .values .ensures, values-shown _) at (c .before .before .put-refusal .ensures)))
 
 pub put-encoded-spec : {M : Type 1} → statement M
 put-encoded-spec =

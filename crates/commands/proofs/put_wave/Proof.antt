@@ -52,7 +52,7 @@ same-length-2 c = search needs
 returns-2 : tie.Need-returns-2
 unfolding readOf
 returns-2 c = let q = rw (c .before .before .before .before .before .before .before .e .given .1) at (c .before .before .before .before .before .before .before .before .before .read-pcm16-wave .ensures) in
-    prints-line _ (wave-refused (c .before .before .before .before .before .before .before .before .before .before .before .before .args .settings) (c .before .before .before .before .before .before .before .before .before .before .before .before .args .file .now) _ q) (rw (c .before .before .before .before .number .ensures, c .before .before .before .none .ensures .0) at (c .before .before .put-refusal .ensures))
+    prints-line _ (wave-refused (c .before .before .before .before .before .before .before .before .before .before .before .before .args .settings) (c .before .before .before .before .before .before .before .before .before .before .before .before .args .file .now) _ q) (rw (c .before .before .before .before .number .ensures, c .before .before .before .none .ensures) at (c .before .before .put-refusal .ensures))
 
 pub put-wave-spec : {M : Type 1} → statement M
 put-wave-spec =

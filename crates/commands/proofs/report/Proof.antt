@@ -4,6 +4,7 @@ use borrow.Author.Needs.{needs}
 use Rattle.commands.proofs.Printing.{prints-line, prints-text, counts, stream-too-long, stream-refused, stream-reported}
 use Rattle.format.proofs.Sizes.{channels-few}
 use Rattle.format.proofs.Accepted.{accepted}
+use Rattle.format.proofs.Answers.{values-shown}
 use Rattle.format.specs.Answers.{inspectedOf}
 use Rattle.commands.proofs.report.Statement.{statement}
 use Rattle.commands.proofs.report.Tie as tie
@@ -15,7 +16,7 @@ put-refusal-requires : tie.Need-put-refusal-requires
 put-refusal-requires c κs = search needs
 
 returns : tie.Need-returns
-returns c = (counts (c .put-refusal .ensures) (c .put-refusal .kept .0), prints-line _ (stream-too-long _ (c .before .before .before .if1 .taken)) (rw (c .before .none .ensures .0) at (c .put-refusal .ensures)))
+returns c = (counts (c .put-refusal .ensures) (c .put-refusal .kept .0), prints-line _ (stream-too-long _ (c .before .before .before .if1 .taken)) (rw (c .before .none .ensures) at (c .put-refusal .ensures)))
 
 inspect-requires : tie.Need-inspect-requires
 inspect-requires c κs = search needs
@@ -47,7 +48,7 @@ returns-2 c = let q = rw (c .before .before .before .h .given .1) at (c .before 
 returns-3 : tie.Need-returns-3
 unfolding inspectedOf
 returns-3 c = let q = rw (c .before .before .before .before .before .e .given .1) at (c .before .before .before .before .before .before .before .inspect .ensures) in
-    (counts (c .put-refusal2 .ensures) (c .put-refusal2 .kept .0), prints-line _ (stream-refused _ (c .before .before .before .before .before .before .before .before .if1 .left) q) (rw (c .before .before .number .ensures, c .before .values .ensures) at (c .put-refusal2 .ensures)))
+    (counts (c .put-refusal2 .ensures) (c .put-refusal2 .kept .0), prints-line _ (stream-refused _ (c .before .before .before .before .before .before .before .before .if1 .left) q) (rw (c .before .before .number .ensures, c .before .values .ensures, values-shown _) at (c .put-refusal2 .ensures)))
 
 pub report-spec : {M : Type 1} → statement M
 report-spec =
