@@ -9,10 +9,10 @@ use denote.Enum.Declared.{tagOf}
 use Rattle.outcome.specs.Outcome.{Outcome, refused, onResult, outputAfter}
 use Rattle.format.specs.Decode.{DecodedFragment, stateLeft}
 use Rattle.format.specs.declared.State.{State}
-use Rattle.wav.specs.Answers.{valuesOf}
-use Rattle.wav.specs.declared.WaveError.{WaveError}
-use Rattle.wav.specs.declared.WaveError.the-variants.{NotWave, RiffEnd, ChunkHeader, ChunkEnd, FormatChunk, DataChunk, NoFormat, Encoding, Channels, ZeroRate, ByteRate, Inconsistent, NoData, PartialFrame, WriterChannels, DataSize, RiffSize, WriterByteRate, OutputTooShort, StrictFormat, StrictOrder, StrictEnd}
-use Rattle.wav.proofs.WaveError as W
+use Rattle.wav_format.specs.Answers.{valuesOf}
+use Rattle.wav_format.specs.declared.WaveError.{WaveError}
+use Rattle.wav_format.specs.declared.WaveError.the-variants.{NotWave, RiffEnd, ChunkHeader, ChunkEnd, FormatChunk, DataChunk, NoFormat, Encoding, Channels, ZeroRate, ByteRate, Inconsistent, NoData, PartialFrame, WriterChannels, DataSize, RiffSize, WriterByteRate, OutputTooShort, StrictFormat, StrictOrder, StrictEnd}
+use Rattle.wav_format.proofs.WaveError as W
 use Rattle.postlapse.specs.Answers.{answerOf, withState}
 use Rattle.postlapse.specs.Promises.{fragmentForC, Fills, Plays, PlaysByValue}
 use Rattle.postlapse.specs.declared.Answer.{Answer}

@@ -20,11 +20,11 @@ use Rattle.digits.specs.Digits.{stored, number, field}
 use Rattle.digits.proofs.Laws.{number-digits, length-digits}
 use Rattle.signed.specs.Signed.{toTwos, ofTwos}
 use Rattle.signed.proofs.Twos.{of-to, to-lt}
-use Rattle.wav.specs.Wave.{frameBytes, oneOrTwo, formatAt, firstChunk, noPart, chunkStep, walkFor, walk, pcm16, consistent, checkFormat, checkData, checkChunks, readWave, strictSize, checkStrict, readStrict, partOf}
-use Rattle.wav.specs.Samples.{samplesOf}
-use Rattle.wav.specs.declared.Format.{Format}
-use Rattle.wav.specs.declared.Chunks.{Chunks}
-use Rattle.wav.specs.declared.Wave.{Wave}
+use Rattle.wav_format.specs.Wave.{frameBytes, oneOrTwo, formatAt, firstChunk, noPart, chunkStep, walkFor, walk, pcm16, consistent, checkFormat, checkData, checkChunks, readWave, strictSize, checkStrict, readStrict, partOf}
+use Rattle.wav_format.specs.Samples.{samplesOf}
+use Rattle.wav_format.specs.declared.Format.{Format}
+use Rattle.wav_format.specs.declared.Chunks.{Chunks}
+use Rattle.wav_format.specs.declared.Wave.{Wave}
 use Rattle.wav_writer.specs.Writer.{waveHeader, sampleBytes, waveBytes, writeCall}
 use Rattle.wav_writer.proofs.SampleLoop.{length-samples}
 use Rattle.wav_writer.proofs.Written.{channels-few, length-header, length-wave}

@@ -15,10 +15,10 @@ use Rattle.outcome.proofs.Laws.{on-result, output-result}
 use Rattle.outcome.proofs.Flags.{either-elim}
 use Rattle.digits.specs.Digits.{digits}
 use Rattle.digits.proofs.Laws.{tail-all, tail-put}
-use Rattle.wav.specs.Wave.{oneOrTwo}
-use Rattle.wav.specs.Answers.{refusal, filledOf}
-use Rattle.wav.specs.declared.WaveError.{WaveError}
-use Rattle.wav.specs.declared.WaveFilled.the-variants as F
+use Rattle.wav_format.specs.Wave.{oneOrTwo}
+use Rattle.wav_format.specs.Answers.{refusal, filledOf}
+use Rattle.wav_format.specs.declared.WaveError.{WaveError}
+use Rattle.wav_format.specs.declared.WaveFilled.the-variants as F
 use Rattle.wav_writer.specs.Writer.{waveHeader, sampleBytes, waveBytes, writeCall, AsWritten}
 use Rattle.wav_writer.proofs.SampleLoop.{length-samples}
 

@@ -4,8 +4,8 @@ use native.Mathlib.Omega.{arith}
 use borrow.Author.Tests.{not-false}
 use Rattle.outcome.proofs.Flags.{via}
 use Rattle.outcome.proofs.Laws.{checks}
-use Rattle.wav.specs.declared.WaveError.the-variants as E
-use Rattle.wav.specs.Answers.{numberOf, valuesOf}
+use Rattle.wav_format.specs.declared.WaveError.the-variants as E
+use Rattle.wav_format.specs.Answers.{numberOf, valuesOf}
 use Rattle.wav_writer.specs.Writer.{writeCall}
 use Rattle.wav_writer.proofs.Written.{as-refused, as-written, channels-few, rate-few}
 use borrow.Author.Needs.{needs}
