@@ -146,7 +146,7 @@ fn levels(version: u8, variant: Variant) -> [i32; 4]
 }
 
 // The level of a code.
-pub fn level(version: u8, variant: Variant, code: u8) -> u32
+fn level(version: u8, variant: Variant, code: u8) -> u32
     ensures { λ r. ⌜ (r ≡ levelOf version variant code) × (r ≤ 14) ⌝ }
 {
     let table = levels(version, variant);
@@ -196,7 +196,7 @@ pub fn delta(steps: &[i32; 89], version: u8, variant: Variant, state: State, cod
 }
 
 // Internal: what a code adds to the index.
-pub fn adjustment(variant: Variant, code: u8) -> i32
+fn adjustment(variant: Variant, code: u8) -> i32
     requires { ⌜ code < 2 ^ bits variant ⌝ }
     ensures { λ r. ⌜ (r ≡ adjustment variant code) × (natAbs r ≤ 9) ⌝ }
 {

@@ -31,7 +31,7 @@ fn take_off(threshold: u32, d: u32) -> u32
 }
 
 // Internal: the H code for a normalised sample.
-pub fn h_code(steps: &[i32; 89], state: State, input: i32) -> u8
+fn h_code(steps: &[i32; 89], state: State, input: i32) -> u8
     requires { ⌜ (now steps ≡ tables.steps) × InRange state × (mag input ≤ 32767) ⌝ }
     ensures { λ r. ⌜ (r ≡ hCode state input) × (r < 16) ⌝ }
 {
@@ -49,7 +49,7 @@ pub fn h_code(steps: &[i32; 89], state: State, input: i32) -> u8
 }
 
 // Internal: the L or L+ code for a normalised sample: the lowest of eight whose clamped result is nearest.
-pub fn l_code(steps: &[i32; 89], variant: Variant, state: State, input: i32) -> u8
+fn l_code(steps: &[i32; 89], variant: Variant, state: State, input: i32) -> u8
     requires { ⌜ (now steps ≡ tables.steps) × InRange state × (mag input ≤ 32767) ⌝ }
     ensures { λ r. ⌜ (r ≡ lCode variant state input) × (r < 8) ⌝ }
 {

@@ -15,12 +15,12 @@ use Rattle.outcome.proofs.Laws.{clear, pass, refusing-then}
 use Rattle.format.specs.Layout.{channelsFit, streamLength}
 use Rattle.format.specs.Encode.{headerWritten, encoded, tooMany, encodeCall}
 use Rattle.format.specs.declared.Settings.{Settings}
-use Rattle.wav.specs.Wave.{frameBytes, oneOrTwo, readWave, partOf}
-use Rattle.wav.specs.Samples.{samplesOf}
-use Rattle.wav.specs.declared.Wave.{Wave}
-use Rattle.wav.proofs.Plain.{plain, PlainRefusal, plain-refusals}
-use Rattle.wav.proofs.Samples.{length-samples}
-use Rattle.wav.proofs.Within.{samples-within}
+use Rattle.wav_format.specs.Wave.{frameBytes, oneOrTwo, readWave, partOf}
+use Rattle.wav_format.specs.Samples.{samplesOf}
+use Rattle.wav_format.specs.declared.Wave.{Wave}
+use Rattle.wav_format.proofs.Plain.{plain, PlainRefusal, plain-refusals}
+use Rattle.wav_format.proofs.Within.{samples-within}
+use Rattle.wav_samples.proofs.Samples.{length-samples}
 use Rattle.commands.specs.Commands.{encodeWhole, encodeWave}
 
 -- ---- the encoder takes each WAV that plain reading accepts and a program can read

@@ -22,19 +22,19 @@ use Rattle.format.specs.declared.Header.{Header}
 use Rattle.format.specs.declared.Settings.{Settings}
 use Rattle.format.specs.declared.Variant.{Variant}
 use Rattle.format.proofs.Sizes.{payload-few}
-use Rattle.wav.specs.Wave.{readWave, partOf}
-use Rattle.wav.specs.Samples.{samplesOf, samplesCall}
-use Rattle.wav.specs.Answers.{numberOf, valuesOf, filledOf, AsSamples}
-use Rattle.wav.specs.declared.Wave.{Wave}
-use Rattle.wav.specs.declared.WaveError.{WaveError}
-use Rattle.wav.proofs.Samples.{length-samples}
-use Rattle.wav.proofs.Plain.{PlainRefusal, plain-refusals}
+use Rattle.wav_format.specs.Wave.{readWave, partOf}
+use Rattle.wav_format.specs.Samples.{samplesOf, samplesCall}
+use Rattle.wav_format.specs.Answers.{numberOf, valuesOf, filledOf, AsSamples}
+use Rattle.wav_format.specs.declared.Wave.{Wave}
+use Rattle.wav_format.specs.declared.WaveError.{WaveError}
+use Rattle.wav_format.proofs.Plain.{PlainRefusal, plain-refusals}
+use Rattle.wav_samples.proofs.Samples.{length-samples}
 use Rattle.io.specs.Counts.{Counts}
 use Rattle.text.specs.Text.{written, Put}
 use Rattle.text.proofs.Laws.{put-none, then-put, put-ends}
 use Rattle.commands.specs.Commands.{printed, encodeWhole, encodeWave, converted, report, reported}
 use Rattle.lines.specs.Lines.{refusalLine, fragmentLine}
-use Rattle.wav.specs.declared.WaveFilled.the-variants as F
+use Rattle.wav_format.specs.declared.WaveFilled.the-variants as F
 
 -- ---- what is printed of an outcome
 

@@ -11,8 +11,8 @@ use Rattle.format.specs.Encode.{headerWritten, encodeCall}
 use Rattle.format.specs.Inspect.{inspected}
 use Rattle.format.specs.declared.Header.{Header}
 use Rattle.format.specs.declared.Settings.{Settings}
-use Rattle.wav.specs.Wave.{readWave, partOf}
-use Rattle.wav.specs.Samples.{samplesOf}
+use Rattle.wav_format.specs.Wave.{readWave, partOf}
+use Rattle.wav_format.specs.Samples.{samplesOf}
 use Rattle.lines.specs.Lines.{refusalLine, headerLine, fragmentLine}
 
 -- ---- what either prints

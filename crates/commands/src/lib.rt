@@ -5,18 +5,18 @@ use format::Inspected;
 use format::Settings;
 use format::Values;
 use format::Variant;
-use wav::WaveFilled;
-use wav::WaveRead;
+use wav_format::WaveFilled;
+use wav_format::WaveRead;
 ghost use mathlib.Core.Path.{_≡_};
-ghost use mathlib.Core.List.{[], _∷_, _++_};
+ghost use mathlib.Core.List.{[], _∷_};
 ghost use Prim.Native.Nat.{_+_, _*_, _/_, _<_, _≤_};
-ghost use lib.ListN.{length, take, drop};
+ghost use lib.ListN.{length, take};
 ghost use Rattle.lists.specs.Lists.{joined};
 ghost use Rattle.format.specs.Layout.{frames, streamLength};
 ghost use Rattle.io.specs.Counts.{Counts};
 ghost use Rattle.text.specs.Text.{Put};
 ghost use Rattle.lines.specs.Lines.{refusalLine, fragmentLine};
-ghost use Rattle.wav.specs.Samples.{samplesOf};
+ghost use Rattle.wav_format.specs.Samples.{samplesOf};
 ghost use Rattle.commands.specs.Commands.{printed, encodeWhole, encodeWave, converted, report, reported};
 
 // The most bytes that a program reads.
@@ -76,7 +76,7 @@ fn load(bytes: &[u8], out: &mut [i16]) -> usize
     requires { ⌜ length (now bytes) / 2 ≤ length (now out) ⌝ }
     ensures { λ r. ⌜ (r ≡ length (now (bytes .entry)) / 2) × (take r (now (out .exit)) ≡ samplesOf (now (bytes .entry))) ⌝ }
 {
-    match wav::load_samples(bytes, out) {
+    match wav_samples::load_samples(bytes, out) {
         WaveFilled::Filled(n) => n,
         WaveFilled::Refused(_) => 0,
     }

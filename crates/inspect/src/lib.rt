@@ -49,7 +49,7 @@ fn header_of(file: &[u8]) -> Header
 }
 
 // The checks 5, 6, 7, 8, 1, 9, 2, 10, in this order.
-pub fn header_checks(file: &[u8]) -> Inspected
+fn header_checks(file: &[u8]) -> Inspected
     ensures { λ r. ⌜ inspectedOf r ≡ headerChecks (now (file .entry)) ⌝ }
 {
     if file.len() < layout::HEADER_SIZE {

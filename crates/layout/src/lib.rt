@@ -10,7 +10,7 @@ ghost use Rattle.format.specs.Layout.{channelsFit, prefix, frames, count, sizeI
 pub const HEADER_SIZE: usize = 16;
 
 // How many frames a stream has. None is empty.
-pub fn frame_count(h: Header) -> usize
+fn frame_count(h: Header) -> usize
     ensures { λ r. ⌜ (r ≡ frames h) × (r ≤ h .samples) ⌝ }
 {
     let whole = format::frame_samples(h.version);
@@ -37,7 +37,7 @@ pub fn fragment_count(h: Header) -> usize
 }
 
 // Bytes of each fragment of a stream.
-pub fn size_in(h: Header) -> usize
+fn size_in(h: Header) -> usize
     ensures { λ r. ⌜ (r ≡ sizeIn h) × (25 ≤ r) × (r ≤ 34) ⌝ }
 {
     let variant = h.variant;

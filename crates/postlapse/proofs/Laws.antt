@@ -1,50 +1,15 @@
 -- What the proofs of the calls cite. Assumes nothing.
-use mathlib.Core.Path.{_≡_, refl}
-use Prim.Native.Nat.{ℕ, zero, suc}
-use mathlib.Core.List.{List, [], _∷_}
+use mathlib.Core.Path.{_≡_}
+use Prim.Native.Nat.{ℕ}
+use mathlib.Core.List.{List}
 use lib.IntN.{ℤ}
-use lib.ListN.{length, take}
-use types.Run.{OneOf, miss}
-use denote.Enum.Declared.{tagOf}
+use lib.ListN.{length}
 use Rattle.outcome.specs.Outcome.{Outcome, refused, onResult, outputAfter}
 use Rattle.format.specs.Decode.{DecodedFragment, stateLeft}
 use Rattle.format.specs.declared.State.{State}
-use Rattle.wav.specs.Answers.{valuesOf}
-use Rattle.wav.specs.declared.WaveError.{WaveError}
-use Rattle.wav.specs.declared.WaveError.the-variants.{NotWave, RiffEnd, ChunkHeader, ChunkEnd, FormatChunk, DataChunk, NoFormat, Encoding, Channels, ZeroRate, ByteRate, Inconsistent, NoData, PartialFrame, WriterChannels, DataSize, RiffSize, WriterByteRate, OutputTooShort, StrictFormat, StrictOrder, StrictEnd}
-use Rattle.wav.proofs.WaveError as W
 use Rattle.postlapse.specs.Answers.{answerOf, withState}
 use Rattle.postlapse.specs.Promises.{fragmentForC, Fills, Plays, PlaysByValue}
 use Rattle.postlapse.specs.declared.Answer.{Answer}
-
--- the tags of the causes of a WAV refusal but 18, the output too short: none of them returns a number
-abbrev others : List ℕ
-others = 0 ∷ 1 ∷ 2 ∷ 3 ∷ 4 ∷ 5 ∷ 6 ∷ 7 ∷ 8 ∷ 9 ∷ 10 ∷ 11 ∷ 12 ∷ 13 ∷ 14 ∷ 15 ∷ 16 ∷ 17 ∷ 19 ∷ 20 ∷ 21 ∷ []
-
-pub no-number : (e : WaveError) → OneOf others (tagOf W.the-type e) → valuesOf e ≡ []
-unfolding valuesOf
-no-number NotWave k = refl
-no-number RiffEnd k = refl
-no-number ChunkHeader k = refl
-no-number ChunkEnd k = refl
-no-number FormatChunk k = refl
-no-number DataChunk k = refl
-no-number NoFormat k = refl
-no-number Encoding k = refl
-no-number Channels k = refl
-no-number ZeroRate k = refl
-no-number ByteRate k = refl
-no-number Inconsistent k = refl
-no-number NoData k = refl
-no-number PartialFrame k = refl
-no-number WriterChannels k = refl
-no-number DataSize k = refl
-no-number RiffSize k = refl
-no-number WriterByteRate k = refl
-no-number (OutputTooShort n) k = absurd (miss others 18 tt k)
-no-number StrictFormat k = refl
-no-number StrictOrder k = refl
-no-number StrictEnd k = refl
 
 -- ---- from an outcome to the promises
 

@@ -6,7 +6,7 @@ use Rattle.outcome.specs.Outcome.{Outcome, result, refused}
 use Rattle.format.specs.Layout.{variantByte}
 use Rattle.format.specs.declared.Header.{Header}
 use Rattle.format.specs.declared.State.{State}
-use Rattle.wav.specs.declared.Wave.{Wave}
+use Rattle.wav_format.specs.declared.Wave.{Wave}
 use Rattle.postlapse.specs.declared.Answer.{Answer}
 use Rattle.postlapse.specs.declared.HeaderAnswer.{HeaderAnswer}
 use Rattle.postlapse.specs.declared.WaveAnswer.{WaveAnswer}

@@ -7,17 +7,17 @@ use format::Header;
 use format::Inspected;
 use format::State;
 use format::Variant;
-use wav::WaveError;
-use wav::WaveFilled;
-use wav::WaveRead;
+use wav_format::WaveError;
+use wav_format::WaveFilled;
+use wav_format::WaveRead;
 ghost use mathlib.Core.Path.{_≡_};
 ghost use lib.ListN.{length};
 ghost use Rattle.outcome.specs.Outcome.{result};
 ghost use Rattle.format.specs.Answers.{refusal, inspectedOf, encodedOf, decodedOf, fragmentDecodedOf};
 ghost use Rattle.format.specs.Inspect.{inspected, decodeCall};
-ghost use Rattle.wav.specs.Answers as wave;
-ghost use Rattle.wav.specs.Samples.{samplesCall};
-ghost use Rattle.wav.specs.Wave.{readWave, readStrict};
+ghost use Rattle.wav_format.specs.Answers as wave;
+ghost use Rattle.wav_format.specs.Samples.{samplesCall};
+ghost use Rattle.wav_format.specs.Wave.{readWave, readStrict};
 ghost use Rattle.wav_writer.specs.Writer.{writeCall};
 ghost use Rattle.postlapse.specs.Answers.{answerOf, headerAnswerOf, waveAnswerOf};
 ghost use Rattle.postlapse.specs.Promises.{encodeForC, fragmentForC, Fills, Decodes, Plays, PlaysByValue};
@@ -336,7 +336,7 @@ pub extern "C" fn postlapse_load_samples(bytes: &[u8], out: &mut [i16]) -> Answe
     ensures { λ r. ⌜ Fills (samplesCall (now (bytes .entry)) (length (now (out .entry))))
         (now (out .entry)) r (now (out .exit)) ⌝ }
 {
-    filled_answer(wav::load_samples(bytes, out))
+    filled_answer(wav_samples::load_samples(bytes, out))
 }
 
 // Writes a WAV file of the interleaved samples to the front of `out`, and answers its length.

@@ -10,9 +10,9 @@ use format::Inspected;
 use format::State;
 use format::Variant;
 use libc::STDOUT_FILENO;
-use wav::WaveError;
-use wav::WaveFilled;
-use wav::WaveRead;
+use wav_format::WaveError;
+use wav_format::WaveFilled;
+use wav_format::WaveRead;
 
 // What one turn found: the end of the list, an answer, one that differs, or a list that breaks off.
 enum Turn {
@@ -109,7 +109,7 @@ fn put_refused(out: &mut [u8], e: Error) -> usize {
 
 // Loads the samples of a question's bytes; none where they are too many.
 fn load(s: &[u8], out: &mut [i16]) -> usize {
-    match wav::load_samples(s, out) {
+    match wav_samples::load_samples(s, out) {
         WaveFilled::Filled(n) => n,
         WaveFilled::Refused(_) => 0,
     }

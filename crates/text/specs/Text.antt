@@ -1,6 +1,6 @@
 -- Printed text: decimal numbers, lines of fields, and what a line and a lent output hold. Assumes nothing.
 use mathlib.Core.Path.{_≡_}
-use Prim.Native.Nat.{ℕ, zero, suc, _+_, _/_, _%_, _≤_}
+use Prim.Native.Nat.{ℕ, zero, suc, _+_, _/_, _%_}
 use Prim.Native.Char.{code}
 use Prim.Native.String.{String, [] as empty, _∷_ as _then_}
 use mathlib.Core.List.{List, [], _∷_, _++_}

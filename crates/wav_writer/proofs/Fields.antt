@@ -7,7 +7,7 @@ use native.Mathlib.Nat.{mod-eq-of-lt}
 use native.Mathlib.Omega.{arith}
 use Rattle.digits.specs.Digits.{digits, stored, number, field}
 use Rattle.digits.proofs.Laws.{number-digits}
-use Rattle.wav.specs.Wave.{lettersAt, frameBytes}
+use Rattle.wav_format.specs.Wave.{lettersAt, frameBytes}
 use Rattle.wav_writer.specs.Writer.{waveHeader}
 
 -- the numbers fit their fields

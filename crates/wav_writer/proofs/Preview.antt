@@ -7,7 +7,7 @@ use Rattle.outcome.specs.Outcome.{result, refuseIf, need}
 use Rattle.lists.specs.Lists.{tabulate, joined}
 use Rattle.digits.specs.Digits.{number, digits}
 use Rattle.signed.specs.Signed.{toTwos}
-use Rattle.wav.specs.Wave.{oneOrTwo}
+use Rattle.wav_format.specs.Wave.{oneOrTwo}
 use Rattle.wav_writer.specs.Writer.{writeCall, waveBytes, waveHeader, sampleBytes}
 
 pub mono-preview : writeCall 1 8000 (pos 2798 ∷ pos 255 ∷ negsuc 2056 ∷ pos 29476 ∷ negsuc 31959 ∷ []) 100 ≡ result (82 ∷ 73 ∷ 70 ∷ 70 ∷

@@ -20,14 +20,15 @@ use Rattle.digits.specs.Digits.{stored, number, field}
 use Rattle.digits.proofs.Laws.{number-digits, length-digits}
 use Rattle.signed.specs.Signed.{toTwos, ofTwos}
 use Rattle.signed.proofs.Twos.{of-to, to-lt}
-use Rattle.wav.specs.Wave.{frameBytes, oneOrTwo, formatAt, firstChunk, noPart, chunkStep, walkFor, walk, pcm16, consistent, checkFormat, checkData, checkChunks, readWave, strictSize, checkStrict, readStrict, partOf}
-use Rattle.wav.specs.Samples.{samplesOf}
-use Rattle.wav.specs.declared.Format.{Format}
-use Rattle.wav.specs.declared.Chunks.{Chunks}
-use Rattle.wav.specs.declared.Wave.{Wave}
+use Rattle.wav_format.specs.Wave.{frameBytes, oneOrTwo, formatAt, firstChunk, noPart, chunkStep, walkFor, walk, pcm16, consistent, checkFormat, checkData, checkChunks, readWave, strictSize, checkStrict, readStrict, partOf}
+use Rattle.wav_format.specs.Samples.{samplesOf}
+use Rattle.wav_format.specs.declared.Format.{Format}
+use Rattle.wav_format.specs.declared.Chunks.{Chunks}
+use Rattle.wav_format.specs.declared.Wave.{Wave}
+use Rattle.wav_format.proofs.Steps.{one-or-two-is}
 use Rattle.wav_writer.specs.Writer.{waveHeader, sampleBytes, waveBytes, writeCall}
 use Rattle.wav_writer.proofs.SampleLoop.{length-samples}
-use Rattle.wav_writer.proofs.Written.{channels-few, length-header, length-wave}
+use Rattle.wav_writer.proofs.Written.{length-header, length-wave}
 use Rattle.wav_writer.proofs.Fields.{Fields, header-fields}
 
 -- what reading a written file gives: `size` bytes of samples behind the header
@@ -184,7 +185,7 @@ accepted channels rate samples room {bytes} q =
 
 -- a rate is below its byte rate
 rate-below : (channels rate : ℕ) → oneOrTwo channels ≡ true → rate ≤ rate * frameBytes channels
-rate-below channels rate e = let h = channels-few channels e in omega (arith, mul-le-mul-left {m = 1} {n = channels * 2} rate (omega arith))
+rate-below channels rate e = let h = one-or-two-is channels e in omega (arith, mul-le-mul-left {m = 1} {n = channels * 2} rate (omega arith))
 
 -- whole frames have whole bytes
 whole-bytes : (channels n : ℕ) → oneOrTwo channels ≡ true → n % channels ≡ 0 → 2 * n % frameBytes channels ≡ 0
@@ -199,7 +200,7 @@ module _ (channels rate : ℕ) (samples : List ℤ) (room : ℕ) {bytes : List �
   unfolding waveBytes
   fields =
       let a = accepted channels rate samples room q in
-      let few = channels-few channels (a .fit) in
+      let few = one-or-two-is channels (a .fit) in
       rw (a .bytes-are)
       (header-fields channels rate (2 * length samples) (sampleBytes samples)
       (record {

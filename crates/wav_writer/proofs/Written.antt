@@ -2,36 +2,27 @@
 use mathlib.Core.Path.{_≡_, refl, sym, _∙_, ap}
 use mathlib.Core.Bool.{true}
 use mathlib.Core.List.{List, _++_, append-assoc}
-use Prim.Native.Nat.{ℕ, _+_, _*_, _-_, _≤_, _<_}
+use Prim.Native.Nat.{ℕ, _+_, _*_, _-_, _≤_}
 use native.Mathlib.Omega.{arith}
 use native.Mathlib.Nat.{mul-le-mul-left}
-use borrow.Author.Tests.{eqb-true}
-use lib.Dec.{eqb}
 use lib.IntN.{ℤ}
 use lib.ListN.{length, take, drop, length-append}
 use lib.Seq.{take-at, drop-at, drop-drop, take-length}
 use Rattle.outcome.specs.Outcome.{result, onResult, outputAfter}
 use Rattle.outcome.proofs.Laws.{on-result, output-result}
-use Rattle.outcome.proofs.Flags.{either-elim}
 use Rattle.digits.specs.Digits.{digits}
 use Rattle.digits.proofs.Laws.{tail-all, tail-put}
-use Rattle.wav.specs.Wave.{oneOrTwo}
-use Rattle.wav.specs.Answers.{refusal, filledOf}
-use Rattle.wav.specs.declared.WaveError.{WaveError}
-use Rattle.wav.specs.declared.WaveFilled.the-variants as F
+use Rattle.wav_format.specs.Wave.{oneOrTwo}
+use Rattle.wav_format.specs.Answers.{refusal, filledOf}
+use Rattle.wav_format.specs.declared.WaveError.{WaveError}
+use Rattle.wav_format.specs.declared.WaveFilled.the-variants as F
+use Rattle.wav_format.proofs.Steps.{one-or-two-is}
 use Rattle.wav_writer.specs.Writer.{waveHeader, sampleBytes, waveBytes, writeCall, AsWritten}
 use Rattle.wav_writer.proofs.SampleLoop.{length-samples}
 
--- one or two channels, and then a byte rate fits 64 bits
-pub channels-few : (channels : ℕ) → oneOrTwo channels ≡ true → (0 < channels) × (channels ≤ 2)
-unfolding oneOrTwo
-channels-few n e =
-    either-elim (eqb n 1) (eqb n 2)
-    (λ h. let k = eqb-true n 1 h in (omega arith, omega arith))
-    (λ h. let k = eqb-true n 2 h in (omega arith, omega arith)) e
-
+-- a byte rate fits 64 bits
 pub rate-few : (channels rate : ℕ) → oneOrTwo channels ≡ true → rate * (channels * 2) ≤ rate * 4
-rate-few channels rate e = let h = channels-few channels e in mul-le-mul-left {m = channels * 2} {n = 4} rate (omega arith)
+rate-few channels rate e = let h = one-or-two-is channels e in mul-le-mul-left {m = channels * 2} {n = 4} rate (omega arith)
 
 pub length-header : (channels rate size : ℕ) → length (waveHeader channels rate size) ≡ 44
 unfolding waveHeader digits

@@ -9,9 +9,9 @@ use Rattle.outcome.specs.Outcome.{Outcome, result, refuseIf, need, _⟫_, onRes
 use Rattle.lists.specs.Lists.{joined}
 use Rattle.digits.specs.Digits.{stored}
 use Rattle.signed.specs.Signed.{toTwos}
-use Rattle.wav.specs.Wave.{frameBytes, oneOrTwo}
-use Rattle.wav.specs.Answers.{filledOf}
-use Rattle.wav.specs.declared.WaveFilled.{WaveFilled}
+use Rattle.wav_format.specs.Wave.{frameBytes, oneOrTwo}
+use Rattle.wav_format.specs.Answers.{filledOf}
+use Rattle.wav_format.specs.declared.WaveFilled.{WaveFilled}
 
 -- the 44 bytes before the samples, for `size` bytes of samples: "RIFF", size + 36, "WAVE", "fmt ", 16, encoding 1, channels, rate,
 -- byte rate, alignment, bits 16, "data", size

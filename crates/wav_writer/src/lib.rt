@@ -1,11 +1,11 @@
 // Writing of WAV files: a 44-byte header, then the samples.
-use wav::WaveError;
-use wav::WaveFilled;
+use wav_format::WaveError;
+use wav_format::WaveFilled;
 ghost use mathlib.Core.Path.{_≡_};
 ghost use mathlib.Core.List.{_++_};
 ghost use Prim.Native.Nat.{_+_, _*_, _≤_};
 ghost use lib.ListN.{length, drop};
-ghost use Rattle.wav.specs.Wave.{frameBytes};
+ghost use Rattle.wav_format.specs.Wave.{frameBytes};
 ghost use Rattle.wav_writer.specs.Writer.{waveHeader, sampleBytes, AsWritten};
 
 // Internal: the 44 bytes before `size` bytes of samples.
@@ -83,7 +83,7 @@ fn put_samples(samples: &[i16], out: &mut [u8])
 pub fn write_pcm16_wave(channels: u8, rate: u32, samples: &[i16], out: &mut [u8]) -> WaveFilled
     ensures { λ r. ⌜ AsWritten channels rate (now (samples .entry)) (now (out .entry)) r (now (out .exit)) ⌝ }
 {
-    if !wav::one_or_two(channels as u16) {
+    if !wav_format::one_or_two(channels as u16) {
         return WaveFilled::Refused(WaveError::WriterChannels);
     }
     let size = 2 * samples.len();

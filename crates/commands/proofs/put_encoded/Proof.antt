@@ -3,8 +3,8 @@ use mathlib.Core.Path.{sym, ap, _∙_}
 use native.Mathlib.Omega.{arith}
 use lib.ListN.{length}
 use borrow.Author.Needs.{needs}
-use Rattle.wav.specs.Samples.{samplesOf}
-use Rattle.wav.proofs.Samples.{length-samples}
+use Rattle.wav_format.specs.Samples.{samplesOf}
+use Rattle.wav_samples.proofs.Samples.{length-samples}
 use Rattle.commands.proofs.Printing.{room-enough, encoding-printed, refusal-printed}
 use Rattle.format.proofs.Answers.{values-shown}
 use Rattle.format.specs.Answers.{encodedOf}

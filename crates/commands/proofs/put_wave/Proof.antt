@@ -2,11 +2,11 @@
 use mathlib.Core.Path.{sym}
 use native.Mathlib.Omega.{arith}
 use borrow.Author.Needs.{needs}
-use Rattle.wav.specs.Wave.{readWave}
+use Rattle.wav_format.specs.Wave.{readWave}
 use Rattle.commands.proofs.Printing.{prints-line, wave-encoded, wave-refused, part-few}
-use Rattle.wav.proofs.Plain.{plain}
-use Rattle.wav.proofs.Steps.{one-or-two-is}
-use Rattle.wav.specs.Answers.{readOf}
+use Rattle.wav_format.proofs.Plain.{plain}
+use Rattle.wav_format.proofs.Steps.{one-or-two-is}
+use Rattle.wav_format.specs.Answers.{readOf}
 use Rattle.commands.proofs.put_wave.Statement.{statement}
 use Rattle.commands.proofs.put_wave.Tie as tie
 

@@ -1,6 +1,6 @@
 -- `postlapse::filled_answer` meets its contract. Assumes nothing.
 use borrow.Author.Needs.{needs}
-use Rattle.wav.specs.Answers.{filledOf}
+use Rattle.wav_format.specs.Answers.{filledOf}
 use Rattle.postlapse.proofs.filled_answer.Statement.{statement}
 use Rattle.postlapse.proofs.filled_answer.Tie as tie
 

@@ -1,6 +1,6 @@
 -- `postlapse::read_answer` meets its contract. Assumes nothing.
 use borrow.Author.Needs.{needs}
-use Rattle.wav.specs.Answers.{readOf}
+use Rattle.wav_format.specs.Answers.{readOf}
 use Rattle.postlapse.specs.Answers.{waveAnswerOf}
 use Rattle.postlapse.proofs.read_answer.Statement.{statement}
 use Rattle.postlapse.proofs.read_answer.Tie as tie

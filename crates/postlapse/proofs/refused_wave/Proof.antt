@@ -1,8 +1,8 @@
 -- `postlapse::refused_wave` meets its contract: only one cause returns a number. Assumes nothing.
 use borrow.Author.Needs.{needs}
-use Rattle.wav.specs.Answers.{numberOf, valuesOf}
+use Rattle.wav_format.specs.Answers.{numberOf, valuesOf}
+use Rattle.wav_format.proofs.Answers.{no-number}
 use Rattle.postlapse.specs.Answers.{answerOf}
-use Rattle.postlapse.proofs.Laws.{no-number}
 use Rattle.postlapse.proofs.refused_wave.Statement.{statement}
 use Rattle.postlapse.proofs.refused_wave.Tie as tie
 

@@ -2,9 +2,9 @@
 use Prim.Native.Nat.{_+_}
 use borrow.Author.Needs.{needs}
 use Rattle.outcome.proofs.Laws.{checks, then-result, then-refused}
-use Rattle.wav.specs.Answers.{numberOf, valuesOf, readOf}
-use Rattle.wav.specs.Steps.{stepOf}
-use Rattle.wav.specs.Wave.{checkChunks, readWave}
+use Rattle.wav_format.specs.Answers.{numberOf, valuesOf, readOf}
+use Rattle.wav_chunks.specs.Steps.{stepOf}
+use Rattle.wav_format.specs.Wave.{checkChunks, readWave}
 use Rattle.wav.proofs.read_pcm16_wave.Statement.{statement}
 use Rattle.wav.proofs.read_pcm16_wave.Tie as tie
 

@@ -1,8 +1,8 @@
 -- `wav::read_strict` meets its contract: plain reading, and then the strict checks. Assumes nothing.
 use borrow.Author.Needs.{needs}
 use Rattle.outcome.proofs.Laws.{then-result, then-refused}
-use Rattle.wav.specs.Answers.{readOf}
-use Rattle.wav.specs.Wave.{readStrict}
+use Rattle.wav_format.specs.Answers.{readOf}
+use Rattle.wav_format.specs.Wave.{readStrict}
 use Rattle.wav.proofs.read_strict.Statement.{statement}
 use Rattle.wav.proofs.read_strict.Tie as tie
 

@@ -1,7 +1,7 @@
 -- `wav::shown` meets its contract: the part begins and ends where the answer says. Assumes nothing.
 use native.Mathlib.Omega.{arith}
 use borrow.Author.Needs.{needs}
-use Rattle.wav.proofs.Within.{part-accepted, part-refused}
+use Rattle.wav.proofs.Parts.{part-accepted, part-refused}
 use Rattle.wav.proofs.shown.Statement.{statement}
 use Rattle.wav.proofs.shown.Tie as tie
 

@@ -1,6 +1,6 @@
 -- `wav::strict_samples` meets its contract: what strict reading accepts lies in the file. Assumes nothing.
 use borrow.Author.Needs.{needs}
-use Rattle.wav.proofs.Within.{strict-part}
+use Rattle.wav.proofs.Parts.{strict-part}
 use Rattle.wav.proofs.strict_samples.Statement.{statement}
 use Rattle.wav.proofs.strict_samples.Tie as tie
 

@@ -1,6 +1,6 @@
 -- `wav::wave_samples` meets its contract: what plain reading accepts lies in the file. Assumes nothing.
 use borrow.Author.Needs.{needs}
-use Rattle.wav.proofs.Within.{plain-part}
+use Rattle.wav.proofs.Parts.{plain-part}
 use Rattle.wav.proofs.wave_samples.Statement.{statement}
 use Rattle.wav.proofs.wave_samples.Tie as tie
 

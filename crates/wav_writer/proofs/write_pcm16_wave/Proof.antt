@@ -4,10 +4,11 @@ use native.Mathlib.Omega.{arith}
 use borrow.Author.Tests.{not-false}
 use Rattle.outcome.proofs.Flags.{via}
 use Rattle.outcome.proofs.Laws.{checks}
-use Rattle.wav.specs.declared.WaveError.the-variants as E
-use Rattle.wav.specs.Answers.{numberOf, valuesOf}
+use Rattle.wav_format.specs.declared.WaveError.the-variants as E
+use Rattle.wav_format.specs.Answers.{numberOf, valuesOf}
+use Rattle.wav_format.proofs.Steps.{one-or-two-is}
 use Rattle.wav_writer.specs.Writer.{writeCall}
-use Rattle.wav_writer.proofs.Written.{as-refused, as-written, channels-few, rate-few}
+use Rattle.wav_writer.proofs.Written.{as-refused, as-written, rate-few}
 use borrow.Author.Needs.{needs}
 use Rattle.wav_writer.proofs.write_pcm16_wave.Statement.{statement}
 use Rattle.wav_writer.proofs.write_pcm16_wave.Tie as tie
@@ -57,7 +58,7 @@ cast-wave-header-2 : tie.Need-cast-wave-header-2
 cast-wave-header-2 c = search needs
 
 wave-header-requires : tie.Need-wave-header-requires
-wave-header-requires c κs = (channels-few _ (via _ _ _ (c .before .before .before .before .before .one-or-two .ensures) (not-false _ (c .before .before .before .before .if1 .left))) .1, omega arith, refl)
+wave-header-requires c κs = (one-or-two-is _ (via _ _ _ (c .before .before .before .before .before .one-or-two .ensures) (not-false _ (c .before .before .before .before .if1 .left))) .1, omega arith, refl)
 
 slice-aggregate-copy : tie.Need-slice-aggregate-copy
 slice-aggregate-copy c = search needs

@@ -1,0 +1,5 @@
+pub mod Steps
+pub mod Walk
+pub mod Within
+pub mod Plain
+pub mod Answers

@@ -1,0 +1,3 @@
+pub mod Wave
+pub mod Samples
+pub mod Answers
