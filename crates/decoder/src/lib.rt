@@ -52,7 +52,13 @@ fn decode_place(file: &[u8], h: Header, p: usize, state: State) -> Placed
     let n = layout::count_at(h, p / channels);
     let fragment = layout::fragment_at(file, h, p);
     let mut samples = [0i16; 64];
-    let next = fragment_core::decode_checked(h.version, variant, state, fragment, &mut samples[..n]);
+    let next = fragment_core::decode_checked(
+        h.version,
+        variant,
+        state,
+        fragment,
+        &mut samples[..n],
+    );
     Placed {
         samples,
         state: next,

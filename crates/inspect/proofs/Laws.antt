@@ -1,16 +1,24 @@
 -- The fragments' checks in file order. Assumes nothing.
 use mathlib.Core.Path.{_≡_, sym, ap, _∙_}
+use mathlib.Core.Bool.{cond}
 use mathlib.Core.List.{List}
-use Prim.Native.Nat.{ℕ, _+_, _/_, _<_}
+use lib.Dec.{ltb}
+use Prim.Native.Nat.{ℕ, _+_, _-_, _*_, _/_, _<_}
 use native.Mathlib.Numerals.{add-one}
 use Rattle.outcome.specs.Outcome.{Outcome, result, inOrder}
 use Rattle.outcome.proofs.Laws.{cleared, passed, order-next, order-refused}
-use Rattle.format.specs.Layout.{fragmentAtPlace}
+use Rattle.format.specs.Layout.{wholeFrame, frames, count, fragmentAtPlace}
+use Rattle.layout.proofs.Places.{count-at-place}
 use Rattle.format.specs.Inspect.{fragmentChecks}
 use Rattle.format.specs.Answers.{inspectedOf}
 use Rattle.format.specs.declared.Header.{Header}
 use Rattle.format.specs.declared.Error.{Error}
 use Rattle.format.specs.declared.Inspected.the-variants.{Accepted, Refused}
+
+-- the samples of the fragment at place p, as the loop has them
+pub turn-count : (h : Header) (p : ℕ) {fragments whole last n : ℕ} → 0 < h .channels → fragments ≡ frames h * h .channels → whole ≡ wholeFrame h
+    → last ≡ count h (frames h - 1) → p < fragments → n ≡ cond (ltb (p + h .channels) fragments) whole last → n ≡ count h (p / h .channels)
+turn-count h p hc ef ew el l e = e ∙ rw (ef, ew, el) (count-at-place h p hc (rw ef at l))
 
 -- the checks of the fragment at place p
 abbrev pub checkAt : Header → List ℕ → ℕ → Outcome Header

@@ -5,10 +5,12 @@ use format::Inspected;
 use format::State;
 use format::Variant;
 ghost use mathlib.Core.Path.{_≡_};
-ghost use Prim.Native.Nat.{_*_, _/_, _≤_, _<_};
+ghost use mathlib.Core.Bool.{cond};
+ghost use lib.Dec.{ltb};
+ghost use Prim.Native.Nat.{ℕ, _+_, _*_, _/_, _^_, _≤_, _<_};
 ghost use lib.ListN.{length};
 ghost use Rattle.outcome.specs.Outcome.{inOrder};
-ghost use Rattle.format.specs.Layout.{headerOf, frames, streamLength, fragmentAtPlace};
+ghost use Rattle.format.specs.Layout.{headerOf, frames, count, streamLength, fragmentAtPlace};
 ghost use Rattle.format.specs.Inspect.{sameLetters, headerChecks, indexTooHigh, unusedZero, fragmentChecks, inspected};
 ghost use Rattle.format.specs.Answers.{inspectedOf};
 
@@ -97,29 +99,40 @@ fn index_too_high(version: u8, fragment: &[u8]) -> bool
     State::MAX_STEP_INDEX < fragment[1]
 }
 
-// Internal: whether the bits after the codes of a fragment of frame `f` are zero.
-fn unused_zero(h: Header, f: usize, fragment: &[u8]) -> bool
-    requires { ⌜ 2 ≤ length (now fragment) ⌝ }
-    ensures { λ r. ⌜ r ≡ unusedZero h f (now (fragment .entry)) ⌝ }
+// Internal: whether the bits after the codes of a fragment of `n` samples are zero.
+fn unused_zero(h: Header, n: usize, fragment: &[u8]) -> bool
+    requires { ⌜ (n ≤ 64) × (2 ≤ length (now fragment)) ⌝ }
+    ensures { λ r. ⌜ ((f : ℕ) → n ≡ count h f → r ≡ unusedZero h f (now (fragment .entry))) ⌝ }
 {
     let variant = h.variant;
-    let used = variant.bits() * layout::count_at(h, f);
     let start = layout::prefix_size(h.version);
-    digits::unused_bits_zero(&fragment[start..], used)
+    digits::unused_bits_zero(&fragment[start..], variant.bits() * n)
 }
 
-// Internal: the checks 11 and 12 of a fragment of frame `f`.
-fn fragment_checks(h: Header, f: usize, fragment: &[u8]) -> Inspected
-    requires { ⌜ 2 ≤ length (now fragment) ⌝ }
-    ensures { λ r. ⌜ inspectedOf r ≡ fragmentChecks h f (now (fragment .entry)) ⌝ }
+// Internal: the checks 11 and 12 of a fragment of `n` samples.
+fn fragment_checks(h: Header, n: usize, fragment: &[u8]) -> Inspected
+    requires { ⌜ (n ≤ 64) × (2 ≤ length (now fragment)) ⌝ }
+    ensures { λ r. ⌜ ((f : ℕ) → n ≡ count h f → inspectedOf r ≡ fragmentChecks h f (now (fragment .entry))) ⌝ }
 {
     if index_too_high(h.version, fragment) {
         return Inspected::Refused(Error::InvalidStepIndex(fragment[1]));
     }
-    if !unused_zero(h, f, fragment) {
+    if !unused_zero(h, n, fragment) {
         return Inspected::Refused(Error::NonZeroPadding);
     }
     Inspected::Accepted(h)
+}
+
+// Internal: the samples of the fragment at place `p`: those of a whole frame before the last frame.
+fn count_of(p: usize, channels: usize, fragments: usize, whole: usize, last: usize) -> usize
+    requires { ⌜ (p < 2 ^ 40) × (channels ≤ 255) × (whole ≤ 64) × (last ≤ 64) ⌝ }
+    ensures { λ r. ⌜ (r ≡ cond (ltb (p + channels) fragments) whole last) × (r ≤ 64) ⌝ }
+{
+    if p + channels < fragments {
+        whole
+    } else {
+        last
+    }
 }
 
 // Internal: the checks of every fragment, in file order. The first refusal counts.
@@ -129,10 +142,12 @@ fn check_fragments(file: &[u8], h: Header) -> Inspected
 {
     let channels = h.channels as usize;
     let fragments = layout::fragment_count(h);
+    let whole = format::frame_samples(h.version);
+    let last = layout::last_count(h);
     let mut p = 0;
     while p < fragments {
         let fragment = layout::fragment_at(file, h, p);
-        match fragment_checks(h, p / channels, fragment) {
+        match fragment_checks(h, count_of(p, channels, fragments, whole, last), fragment) {
             Inspected::Accepted(_) => {}
             Inspected::Refused(e) => {
                 return Inspected::Refused(e);

@@ -1,7 +1,11 @@
 -- Where the fragments of a stream lie, and a channel's samples in an interleaved list. Assumes nothing.
 use Prim.Native.Nat.{ℕ, suc, _+_, _-_, _*_, _/_, _≤_, _<_, min}
 use native.Mathlib.Omega.{arith}
-use native.Mathlib.Nat.{mul-le-mul-right, mul-le-mul-left, div-lt-iff-lt-mul, div-mul-le-self, add-sub-cancel-left}
+use native.Mathlib.Nat.{mul-le-mul-right, mul-le-mul-left, lt-of-mul-lt-mul-right, div-lt-iff-lt-mul, div-mul-le-self, div-add-mod', mod-lt, add-sub-cancel-left}
+use native.Mathlib.Decide.{decLt}
+use mathlib.Core.Bool.{cond}
+use borrow.Author.Tests.{lt-ltb, le-ltb}
+use lib.Dec.{ltb}
 use mathlib.Core.List.{List}
 use lib.ListN.{length, take, drop}
 use mathlib.Core.Path.{_≡_, ap}
@@ -24,6 +28,37 @@ place-inside h p l = omega (arith, mul-le-mul-right (sizeIn h) l)
 pub place-prefix : (h : Header) (d : List ℕ) (p : ℕ) → length d ≡ streamLength h → p < frames h * h .channels → 2 ≤ length (fragmentAtPlace h d p)
 place-prefix h d p e l = rw (place-length h d p e l) (omega (arith, payload-few (h .variant)))
 
+-- the frame of place p
+pub frame-of : (p frames channels : ℕ) → 0 < channels → p < frames * channels → p / channels < frames
+frame-of p frames channels h l = div-lt-iff-lt-mul h .1 l
+
+-- place p is in a whole frame where another frame follows it, and else in the last one
+module _ (h : Header) (p : ℕ) (hc : 0 < h .channels) (l : p < frames h * h .channels) where
+  abbrev c : ℕ
+  c = h .channels
+
+  abbrev f : ℕ
+  f = p / h .channels
+
+  low : f * c ≤ p
+  low = div-mul-le-self p c
+
+  high : p < f * c + c
+  high = omega (arith, div-add-mod' p c, mod-lt p hc)
+
+  pub count-at-place : cond (ltb (p + h .channels) (frames h * h .channels)) (wholeFrame h) (count h (frames h - 1)) ≡ count h (p / h .channels)
+  unfolding count
+  count-at-place = go (decLt (p + c) (frames h * c))
+    where
+      go : Dec (p + c < frames h * c) → cond (ltb (p + c) (frames h * c)) (wholeFrame h) (count h (frames h - 1)) ≡ count h f
+      go (yes more) =
+          let next : f + 1 < frames h = lt-of-mul-lt-mul-right c (omega (arith, low)) in
+          rw (lt-ltb _ _ more) (omega (arith, frame-in h (f + 1) next))
+      go (no none) =
+          let above : frames h < f + 2 = lt-of-mul-lt-mul-right c (omega (arith, high)) in
+          let here : f ≡ frames h - 1 = omega (arith, frame-of p (frames h) c hc l) in
+          rw (le-ltb (p + c) (frames h * c) (omega arith), here)
+
 -- ---- samples
 
 -- sample w of n of one channel: its place is in the list, and not before its number
@@ -40,10 +75,6 @@ place-in first w n channels ch len hw hc h =
 
     some : ch < channels → 1 ≤ channels
     some hc = omega arith
-
--- the frame of place p
-pub frame-of : (p frames channels : ℕ) → 0 < channels → p < frames * channels → p / channels < frames
-frame-of p frames channels h l = div-lt-iff-lt-mul h .1 l
 
 -- a frame's samples lie in the output: those of frame f begin at f × whole, and count many follow
 pub record Room (first n channels samples len : ℕ) : Type 0 where

@@ -2,7 +2,7 @@
 use format::Header;
 use format::Variant;
 ghost use mathlib.Core.Path.{_≡_};
-ghost use Prim.Native.Nat.{_*_, _^_, _≤_, _<_};
+ghost use Prim.Native.Nat.{_-_, _*_, _^_, _≤_, _<_};
 ghost use lib.ListN.{length};
 ghost use Rattle.format.specs.Layout.{channelsFit, prefix, frames, count, sizeIn, streamLength, fragmentAtPlace};
 
@@ -27,6 +27,17 @@ pub fn count_at(h: Header, f: usize) -> usize
     let whole = format::frame_samples(h.version);
     let left = h.samples as usize - f * whole;
     if left < whole { left } else { whole }
+}
+
+// Samples per channel of the last frame, 0 where there is none.
+pub fn last_count(h: Header) -> usize
+    ensures { λ r. ⌜ (r ≡ count h (frames h - 1)) × (r ≤ 64) ⌝ }
+{
+    let frames = frame_count(h);
+    if frames == 0 {
+        return 0;
+    }
+    count_at(h, frames - 1)
 }
 
 // How many fragments a stream has.

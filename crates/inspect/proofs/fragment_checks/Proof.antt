@@ -14,18 +14,22 @@ shared-slice-read-t6 c = search needs
 
 returns : tie.Need-returns
 unfolding fragmentChecks numberOf valuesOf inspectedOf
-returns c = search checks depth 12
+returns c f e = search checks depth 12
 
 unused-zero-requires : tie.Need-unused-zero-requires
 unused-zero-requires c κs = search needs
 
 returns-2 : tie.Need-returns-2
 unfolding fragmentChecks numberOf valuesOf inspectedOf
-returns-2 c = search checks depth 12
+returns-2 c f e =
+    let u = c .before .unused-zero .ensures f e in
+    search (checks, u) depth 12
 
 returns-3 : tie.Need-returns-3
 unfolding fragmentChecks numberOf valuesOf inspectedOf
-returns-3 c = search checks depth 12
+returns-3 c f e =
+    let u = c .before .unused-zero .ensures f e in
+    search (checks, u) depth 12
 
 pub fragment-checks-spec : {M : Type 1} → statement M
 fragment-checks-spec =

@@ -8,16 +8,6 @@ use Rattle.format.proofs.Sizes.{bits-few}
 use Rattle.inspect.proofs.unused_zero.Statement.{statement}
 use Rattle.inspect.proofs.unused_zero.Tie as tie
 
-bits-requires : tie.Need-bits-requires
-bits-requires c κs = search needs
-
-count-at-requires : tie.Need-count-at-requires
-count-at-requires c κs = search needs
-
-mul-used : tie.Need-mul-used
-mul-used c =
-    omega (arith, mul-le-mul-left (c .before .bits .result) (c .count-at .ensures .1), bits-few (c .before .before .before .args .h .variant))
-
 prefix-size-requires : tie.Need-prefix-size-requires
 prefix-size-requires c κs = search needs
 
@@ -30,19 +20,27 @@ part-unused-bits-zero-start c = search needs
 part-unused-bits-zero-end : tie.Need-part-unused-bits-zero-end
 part-unused-bits-zero-end c = search needs
 
+bits-requires : tie.Need-bits-requires
+bits-requires c κs = search needs
+
+mul-unused-bits-zero : tie.Need-mul-unused-bits-zero
+mul-unused-bits-zero c =
+    let s = c .before .before .before .before in
+    omega (arith, mul-le-mul-left (c .bits .result) (s .pre .0), c .bits .ensures, bits-few (s .args .h .variant))
+
 unused-bits-zero-requires : tie.Need-unused-bits-zero-requires
 unused-bits-zero-requires c κs = search needs
 
 returns : tie.Need-returns
 unfolding unusedZero
-returns c =
-    let p = c .before .before in
-    let b = p .before .before in
+returns c f e =
+    let b = c .before in
+    let p = b .before .before in
     rw (
       c .unused-bits-zero .ensures,
       b .bits .ensures,
-      p .before .count-at .ensures .0,
-      tail-all (p .prefix-size .result) (b .before .before .args .fragment .now),
+      e,
+      tail-all (p .prefix-size .result) (p .before .before .args .fragment .now),
       p .prefix-size .ensures .0,
     )
 
@@ -50,12 +48,11 @@ pub unused-zero-spec : {M : Type 1} → statement M
 unused-zero-spec =
     tie.close
     (tie.spec
-    bits-requires
-    count-at-requires
-    mul-used
     prefix-size-requires
     sub-unused-bits-zero
     part-unused-bits-zero-start
     part-unused-bits-zero-end
+    bits-requires
+    mul-unused-bits-zero
     unused-bits-zero-requires
     returns)
