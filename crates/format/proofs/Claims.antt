@@ -16,7 +16,7 @@ use Rattle.format.specs.Gain.{nearest, pregained, ownVolume, normalised,
 use Rattle.format.specs.Decode.{zeroState, InRange, stateBefore, fragmentCall}
 use Rattle.format.specs.Encode.{channel, headerWritten, encoded, encodeCall}
 use Rattle.format.specs.Inspect.{Sound, inspected, decodeCall}
-use Rattle.format.specs.Calls.{Call, Listed, Separate}
+use Rattle.format.specs.Calls.{Call, Listed, InStream, Separate}
 use Rattle.format.specs.Tests.{gives, refuses}
 use Rattle.format.specs.Cases.{cases, further}
 use Rattle.format.specs.Answers.{numberOf, valuesOf}
@@ -115,6 +115,10 @@ encoding-accepted = proofs.Encoder.encoding-accepted
 -- 0 ..": the single claim about a list (Calls.Listed says which lists, Calls.Separate what holds after them)
 pub separation : (d : List ℕ) (h : Header) → inspected d ≡ result h → (ks : List Call) → Listed h d (λ c. zeroState) (λ c. 0) ks → Separate h d ks
 separation = proofs.Separation.separation
+
+-- "In version 3 the same holds for any fragments of the stream, none twice, in any order" (a fragment twice does no harm)
+pub any-order : (d : List ℕ) (h : Header) → inspected d ≡ result h → anew (h .version) ≡ true → (ks : List Call) → InStream h ks → Separate h d ks
+any-order = proofs.Separation.any-order
 
 -- "In version 3 that state is 0, 0"
 pub state-anew : (h : Header) (frags : ℕ → List ℕ) (f : ℕ) → anew (h .version) ≡ true → stateBefore h frags f ≡ zeroState

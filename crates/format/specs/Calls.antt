@@ -66,6 +66,12 @@ Listed h d states taken (other c version variant fragment out ∷ ks) =
     (c < h .channels) × Refuses (fragmentCall version variant (states c) fragment (length out))
     × Listed h d (statesNext h d states (other c version variant fragment out)) taken ks
 
+-- calls that take any fragments of the stream, in any order, each into an output as long as its frame's count
+unfoldable pub InStream : Header → List Call → Type 0
+InStream h [] = Unit {0}
+InStream h (takes c f out ∷ ks) = (c < h .channels) × (f < frames h) × (length out ≡ count h f) × InStream h ks
+InStream h (other c version variant fragment out ∷ ks) = ⊥
+
 -- ---- what is claimed of them
 
 -- each call that takes a fragment is not refused, and its output is the definition's samples for its fragment; each other call
