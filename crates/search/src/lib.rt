@@ -1,7 +1,8 @@
 // Which start index a fragment gets: the sum of the trial from each start, given up once it can no longer win, and the least.
 ghost use mathlib.Core.Path.{_≡_};
 ghost use mathlib.Core.List.{map};
-ghost use Prim.Native.Nat.{_<_, _≤_, _^_};
+ghost use Prim.Native.Nat.{_+_, _-_, _<_, _≤_, _^_, min};
+ghost use mathlib.Core.Bool.{cond};
 ghost use lib.IntN.{natAbs, _-ℤ_};
 ghost use lib.ListN.{length, take};
 ghost use lib.Signed.{mag};
@@ -9,7 +10,8 @@ ghost use Rattle.format.specs.Tables as tables;
 ghost use Rattle.format.specs.Step.{stepped};
 ghost use Rattle.format.specs.Gain.{normalised, outputGain};
 ghost use Rattle.format.specs.Decode.{InRange};
-ghost use Rattle.format.specs.Encode.{square, codeFor, trialTo, bestTrial};
+ghost use Rattle.format.specs.Encode.{square, hCode, codeFor, trialTo, bestTrial};
+ghost use Rattle.format.specs.declared.Variant.the-variants as variants;
 ghost use Rattle.search.specs.Search.{Bounded, Tie};
 use format::Settings;
 use format::State;
@@ -30,13 +32,113 @@ pub struct Found {
     pub sum: u64,
 }
 
+// a - b, and 0 where that is below 0.
+fn less(a: u32, b: u32) -> u32
+    ensures { λ r. ⌜ r ≡ a - b ⌝ }
+{
+    if b < a { a - b } else { 0 }
+}
+
+// The smaller of two numbers.
+fn smaller(a: u32, b: u32) -> u32
+    ensures { λ r. ⌜ r ≡ min a b ⌝ }
+{
+    if b < a { b } else { a }
+}
+
+// The distance of two numbers.
+fn gap(a: u32, b: u32) -> u32
+    ensures { λ r. ⌜ r ≡ a - b + (b - a) ⌝ }
+{
+    if a < b { b - a } else { a - b }
+}
+
+// Internal: what is left of d when a threshold that fits into it is taken off. A difference that wraps is not below d, so
+// that no jump is taken.
+fn rest(threshold: u32, d: u32) -> u32
+    requires { ⌜ 0 < threshold ⌝ }
+    ensures { λ r. ⌜ (r ≤ d) × (threshold ≤ d → r + threshold ≡ d) × (d < threshold → r ≡ d) ⌝ }
+{
+    let w = std::num::wrapping_sub_u32(d, threshold);
+    if w < d { w } else { d }
+}
+
+// n where `on`, else 0.
+fn count_of(on: bool, n: usize) -> usize
+    ensures { λ r. ⌜ (r ≡ cond on n 0) × (r ≤ n) ⌝ }
+{
+    if on { n } else { 0 }
+}
+
+// n, at most 88.
+fn at_most_88(n: usize) -> usize
+    ensures { λ r. ⌜ r ≡ min n 88 ⌝ }
+{
+    if 88 < n { 88 } else { n }
+}
+
+// One less, at least 0.
+fn one_less(n: usize) -> usize
+    ensures { λ r. ⌜ r ≡ n - 1 ⌝ }
+{
+    if 0 < n { n - 1 } else { 0 }
+}
+
+// Internal: the index moved up, to at most 88, or down by 1, to at least 0. Both are made first, so that no jump is taken.
+fn moved(index: usize, up: bool, by: usize) -> usize
+    requires { ⌜ (index ≤ 88) × (by ≤ 88) ⌝ }
+    ensures { λ r. ⌜ r ≡ cond up (min (index + by) 88) (index - 1) ⌝ }
+{
+    let high = at_most_88(index + by);
+    let low = one_less(index);
+    if up { high } else { low }
+}
+
+// Internal: from a raised sample x, where the raised predictor p lands by an H code, which leaves `last` of their distance:
+// short of x by that, and on by an eighth of the step.
+fn h_landed(x: u32, p: u32, eighth: u32, last: u32) -> u32
+    requires { ⌜ (x ≤ 65535) × (p ≤ 65535) × (eighth ≤ 4095) × (last ≤ x - p + (p - x)) ⌝ }
+    ensures { λ r. ⌜ (x < p → r ≡ x + last - eighth) × (p ≤ x → r ≡ min (x + eighth - last) 65535) × (r ≤ 65535) ⌝ }
+{
+    if x < p {
+        less(x + last, eighth)
+    } else {
+        smaller(x + eighth - last, 65535)
+    }
+}
+
+// Internal: the state after the H code for a normalised sample, without the code.
+fn h_next(steps: &[i32; 89], state: State, input: i32) -> State
+    requires { ⌜ (now steps ≡ tables.steps) × InRange state × (mag input ≤ 32767) ⌝ }
+    ensures { λ r. ⌜ r ≡ stepped 3 variants.H state (hCode state input) ⌝ }
+{
+    let index = state.index;
+    let predictor = state.predictor;
+    let step = adpcm::step_size(steps, index);
+    let x = signed::raise(input);
+    let p = signed::raise(predictor);
+    let d = gap(x, p);
+    let half = rest(step, d);
+    let quarter = rest(step / 2, half);
+    let last = rest(step / 4, quarter);
+    let by = 2 + count_of(step / 2 <= half, 4) + count_of(step / 4 <= quarter, 2);
+    State {
+        predictor: signed::lower(h_landed(x, p, step / 8, last)),
+        index: moved(index, step <= d, by),
+    }
+}
+
 // Internal: the state after the code for a normalised sample.
 fn next_state(steps: &[i32; 89], variant: Variant, state: State, input: i32) -> State
     requires { ⌜ (now steps ≡ tables.steps) × InRange state × (mag input ≤ 32767) ⌝ }
     ensures { λ r. ⌜ r ≡ stepped 3 variant state (codeFor variant state input) ⌝ }
 {
-    let code = adpcm::encode_code(steps, variant, state, input);
-    adpcm::update(steps, VERSION, variant, state, code)
+    if let Variant::H = variant {
+        h_next(steps, state, input)
+    } else {
+        let code = adpcm::encode_code(steps, variant, state, input);
+        adpcm::update(steps, VERSION, variant, state, code)
+    }
 }
 
 // Internal: the square of the distance from a pre-gained sample to the sample that a state gives.
