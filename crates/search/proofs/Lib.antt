@@ -1,3 +1,5 @@
 pub mod Summed
 pub mod Leading
 pub mod Cascade
+pub mod Nearest
+pub mod Choice

@@ -7,18 +7,16 @@ ghost use lib.IntN.{natAbs, _-ℤ_};
 ghost use lib.ListN.{length, take};
 ghost use lib.Signed.{mag};
 ghost use Rattle.format.specs.Tables as tables;
-ghost use Rattle.format.specs.Step.{stepped};
+ghost use Rattle.format.specs.Layout.{bits};
+ghost use Rattle.format.specs.Step.{lSize, stepped};
 ghost use Rattle.format.specs.Gain.{normalised, outputGain};
 ghost use Rattle.format.specs.Decode.{InRange};
-ghost use Rattle.format.specs.Encode.{square, hCode, codeFor, trialTo, bestTrial};
+ghost use Rattle.format.specs.Encode.{square, hCode, lCode, codeFor, trialTo, bestTrial};
 ghost use Rattle.format.specs.declared.Variant.the-variants as variants;
-ghost use Rattle.search.specs.Search.{Bounded, Tie};
+ghost use Rattle.search.specs.Search.{Sized, Landed, Bounded, Tie};
 use format::Settings;
 use format::State;
 use format::Variant;
-
-// The version whose fragments the encoder makes.
-const VERSION: u8 = 3;
 
 // Above every sum, which is at most 63 * 2^32.
 const NO_LIMIT: u64 = 274877906944;
@@ -128,6 +126,106 @@ fn h_next(steps: &[i32; 89], state: State, input: i32) -> State
     }
 }
 
+// The sizes of the differences of L or L+, by the code's two low bits.
+pub struct Sizes {
+    pub a: u32,
+    pub b: u32,
+    pub c: u32,
+    pub d: u32,
+}
+
+// Internal: the size of a difference.
+fn l_size(level: u32, step: u32) -> u32
+    requires { ⌜ (level ≤ 14) × (step ≤ 32767) ⌝ }
+    ensures { λ r. ⌜ (r ≡ lSize level step) × (r ≤ 65535) ⌝ }
+{
+    (level * step + 4) / 8
+}
+
+// Internal: the four sizes at a step.
+fn l_sizes(variant: Variant, step: u32) -> Sizes
+    requires { ⌜ (bits variant ≡ 3) × (step ≤ 32767) ⌝ }
+    ensures { λ r. ⌜ Sized variant step r ⌝ }
+{
+    if let Variant::L = variant {
+        Sizes {
+            a: l_size(1, step),
+            b: l_size(3, step),
+            c: l_size(5, step),
+            d: l_size(7, step),
+        }
+    } else {
+        Sizes {
+            a: l_size(1, step),
+            b: l_size(2, step),
+            c: l_size(3, step),
+            d: l_size(14, step),
+        }
+    }
+}
+
+// a where `on`, else b.
+fn pick(on: bool, a: u32, b: u32) -> u32
+    ensures { λ r. ⌜ r ≡ cond on a b ⌝ }
+{
+    if on { a } else { b }
+}
+
+// Internal: how far a raised predictor p can go toward a raised sample x.
+fn room(x: u32, p: u32) -> u32
+    requires { ⌜ p ≤ 65535 ⌝ }
+    ensures { λ r. ⌜ (x < p → r ≡ p) × (p ≤ x → r ≡ 65535 - p) ⌝ }
+{
+    if x < p { p } else { 65535 - p }
+}
+
+// Internal: where the raised predictor p lands by an L or L+ code, `offset` being the nearest toward the raised sample x: there,
+// unless the limit behind it is nearer, or, where the code toward x is the higher, as near.
+fn l_landed(x: u32, p: u32, twice: u32, offset: u32) -> u32
+    requires { ⌜ (p ≤ 65535) × (twice ≤ 131070) × (x < p → offset ≤ p) × (p ≤ x → offset ≤ 65535 - p) ⌝ }
+    ensures { λ r. ⌜ Landed x p twice offset r ⌝ }
+{
+    if x < p {
+        if twice + (65535 - p) <= offset {
+            65535
+        } else {
+            p - offset
+        }
+    } else {
+        if twice + p < offset { 0 } else { p + offset }
+    }
+}
+
+// Internal: the state after the L or L+ code for a normalised sample, without the eight candidates: of the four toward the sample,
+// the nearest is the one that as many middles between two lie short of it.
+fn l_next(steps: &[i32; 89], variant: Variant, state: State, input: i32) -> State
+    requires { ⌜ (now steps ≡ tables.steps) × InRange state × (mag input ≤ 32767) × (bits variant ≡ 3) ⌝ }
+    ensures { λ r. ⌜ r ≡ stepped 3 variant state (lCode variant state input) ⌝ }
+{
+    let index = state.index;
+    let predictor = state.predictor;
+    let step = adpcm::step_size(steps, index);
+    let x = signed::raise(input);
+    let p = signed::raise(predictor);
+    let twice = 2 * gap(x, p);
+    let limit = room(x, p);
+    let sizes = l_sizes(variant, step);
+    let a = smaller(sizes.a, limit);
+    let b = smaller(sizes.b, limit);
+    let c = smaller(sizes.c, limit);
+    let d = smaller(sizes.d, limit);
+    let m = count_of(a + b < twice, 1) + count_of(b + c < twice, 1) + count_of(c + d < twice, 1);
+    let offset = pick(
+        c + d < twice,
+        d,
+        pick(b + c < twice, c, pick(a + b < twice, b, a)),
+    );
+    State {
+        predictor: signed::lower(l_landed(x, p, twice, offset)),
+        index: moved(index, a + b < twice, 2 * m),
+    }
+}
+
 // Internal: the state after the code for a normalised sample.
 fn next_state(steps: &[i32; 89], variant: Variant, state: State, input: i32) -> State
     requires { ⌜ (now steps ≡ tables.steps) × InRange state × (mag input ≤ 32767) ⌝ }
@@ -136,8 +234,7 @@ fn next_state(steps: &[i32; 89], variant: Variant, state: State, input: i32) -> 
     if let Variant::H = variant {
         h_next(steps, state, input)
     } else {
-        let code = adpcm::encode_code(steps, variant, state, input);
-        adpcm::update(steps, VERSION, variant, state, code)
+        l_next(steps, variant, state, input)
     }
 }
 

@@ -1,6 +1,8 @@
 -- `search::next_state` meets its contract. Assumes nothing.
 use borrow.Author.Needs.{needs}
 use Rattle.signed.proofs.Laws.{read16}
+use Rattle.format.proofs.Sizes.{three-bits}
+use Rattle.adpcm.proofs.Bounds.{code-three}
 use Rattle.search.proofs.next_state.Statement.{statement}
 use Rattle.search.proofs.next_state.Tie as tie
 
@@ -10,11 +12,10 @@ enum-told c = search needs
 h-next-requires : tie.Need-h-next-requires
 h-next-requires c κs = search needs
 
-encode-code-requires : tie.Need-encode-code-requires
-encode-code-requires c κs = search needs
-
-update-requires : tie.Need-update-requires
-update-requires c κs = search needs
+l-next-requires : tie.Need-l-next-requires
+l-next-requires c κs =
+    let s = c .before in
+    (s .pre .0, s .pre .1, rw (read16 (s .args .input) (s .pre .2)) (s .pre .2), three-bits (s .args .variant) (c .match .keys2))
 
 returns : tie.Need-returns
 returns c =
@@ -23,10 +24,9 @@ returns c =
 
 returns-2 : tie.Need-returns-2
 returns-2 c =
-    let s = c .before .before .before in
-    rw (c .update .ensures, c .before .encode-code .ensures .0, read16 (s .args .input) (s .pre .2))
+    let s = c .before .before in
+    let e = three-bits (s .args .variant) (c .before .match .keys2) in
+    rw (c .l-next .ensures, read16 (s .args .input) (s .pre .2), code-three (s .args .variant) (s .args .state) (s .args .input) e)
 
 pub next-state-spec : {M : Type 1} → statement M
-next-state-spec =
-    tie.close
-    (tie.spec enum-told h-next-requires encode-code-requires update-requires returns returns-2)
+next-state-spec = tie.close (tie.spec enum-told h-next-requires l-next-requires returns returns-2)
