@@ -43,14 +43,14 @@ module _ (k : Settings) (v : ℕ) (xs : List ℤ) (n : ℕ) where
         lowest = λ j l m. absurd (omega arith);
       }
 
-  pub leading-new : {i t sum : ℕ} {b : Found} → Leading i b → i < 89 → Tie i (b .index) t → sum ≡ sumFrom i → sum < b .sum + t → sum < 2 ^ 38
+  pub leading-new : {i t sum : ℕ} {b : Found} → Leading i b → i < 89 → Tie i (b .index) t → sum ≡ sumFrom i → sum < b .sum + t
       → Leading (i + 1) (record { index = i; sum = sum })
-  leading-new {i} {t} {sum} {b} d h tie e l m =
+  leading-new {i} {t} {sum} {b} d h tie e l =
       record {
         within = omega arith;
         start = omega arith;
         sum = e;
-        small = m;
+        small = omega (arith, d .small, tie .small);
         least = below-more (λ (j : ℕ). sum ≤ sumFrom j) i (λ j m. omega (arith, less j m)) (omega arith);
         lowest = λ j m p. less j p;
       }

@@ -52,17 +52,20 @@ module _ (k : Settings) (v : ℕ) (xs : List ℤ) (index n : ℕ) where
       }
 
   -- sums do not fall
-  rises : (i j : ℕ) → trialTo k v xs index i .sum ≤ trialTo k v xs index (j + i) .sum
+  pub rises : (i j : ℕ) → trialTo k v xs index i .sum ≤ trialTo k v xs index (j + i) .sum
   unfolding trialTo trialStep
   rises i zero = rw zero-add (omega arith)
   rises i (suc j) = rw suc-add (omega (arith, rises i j))
 
   -- given up at i samples, or whole
-  pub given-up : {i limit sum : ℕ} {s : State} → Summed i s sum → limit ≤ sum → Bounded limit (trialTo k v xs index n .sum) sum
-  given-up {i} d h =
+  pub given-up : {limit : ℕ} → limit ≤ trialTo k v xs index n .sum → Bounded limit (trialTo k v xs index n .sum) limit
+  given-up h = record { same = λ l. absurd (omega arith); over = λ l. h }
+
+  pub over-limit : {i limit sum : ℕ} {s : State} → Summed i s sum → limit ≤ sum → limit ≤ trialTo k v xs index n .sum
+  over-limit {i} d h =
       let e : n - i + i ≡ n = omega (arith, d .within) in
       let r = rw e at (rises i (n - i)) in
-      record { same = λ l. absurd (omega arith); over = λ l. omega (arith, d .total) }
+      omega (arith, d .total)
 
   pub summed-all : {i limit sum : ℕ} {s : State} → Summed i s sum → n ≤ i → Bounded limit (trialTo k v xs index n .sum) sum
   summed-all {i} d h =

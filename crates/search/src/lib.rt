@@ -1,8 +1,8 @@
 // Which start index a fragment gets: the sum of the trial from each start, given up once it can no longer win, and the least.
 ghost use mathlib.Core.Path.{_≡_};
 ghost use mathlib.Core.List.{map};
-ghost use Prim.Native.Nat.{_+_, _-_, _<_, _≤_, _^_, min};
-ghost use mathlib.Core.Bool.{cond};
+ghost use Prim.Native.Nat.{_+_, _-_, _/_, _%_, _<_, _≤_, _^_, min};
+ghost use mathlib.Core.Bool.{true, cond};
 ghost use lib.IntN.{natAbs, _-ℤ_};
 ghost use lib.ListN.{length, take};
 ghost use lib.Signed.{mag};
@@ -13,13 +13,16 @@ ghost use Rattle.format.specs.Gain.{normalised, outputGain};
 ghost use Rattle.format.specs.Decode.{InRange};
 ghost use Rattle.format.specs.Encode.{square, hCode, lCode, codeFor, trialTo, bestTrial};
 ghost use Rattle.format.specs.declared.Variant.the-variants as variants;
-ghost use Rattle.search.specs.Search.{Sized, Landed, Bounded, Tie};
+ghost use Rattle.search.specs.Search.{Sized, Landed, key, marksOf, Rival, Bounded, Tie};
 use format::Settings;
 use format::State;
 use format::Variant;
 
 // Above every sum, which is at most 63 * 2^32.
 const NO_LIMIT: u64 = 274877906944;
+
+// More than there are keys of states.
+const KEYS: u64 = 8388608;
 
 // The start whose trial gives the first limit: loud samples start with large steps.
 const BOUND: u8 = 80;
@@ -247,7 +250,29 @@ pub fn squared_error(sample: i16, state: State, volume: u8) -> u64
     signed::squared_distance(sample as i32, gain::apply_volume(predictor, volume) as i32)
 }
 
-// Internal: the sum of the trial of the first `count` samples from a start index, given up where it reaches the limit.
+// Internal: a state as one number.
+fn key_of(state: State) -> u64
+    requires { ⌜ InRange state ⌝ }
+    ensures { λ r. ⌜ (r ≡ key state) × (r < 8388608) ⌝ }
+{
+    let predictor = state.predictor;
+    128 * (signed::raise(predictor) as u64) + state.index as u64
+}
+
+// Internal: whether a trial with this key and sum stands where the marked one stood, and `tie` or more above its sum.
+fn meets(mark: u64, key: u64, tie: u64, sum: u64) -> bool
+    requires { ⌜ tie ≤ 2 ^ 38 ⌝ }
+    ensures { λ r. ⌜ (r ≡ true → (key ≡ mark % 8388608) × (mark / 8388608 + tie ≤ sum)) ⌝ }
+{
+    if key == mark % KEYS {
+        mark / KEYS + tie <= sum
+    } else {
+        false
+    }
+}
+
+// Internal: the sum of the trial of the first `count` samples from a start index, its marks left in `trace`. It is given up, and
+// the limit is answered, where its sum reaches the limit or it meets the marked trial, which ends `tie` below the limit, no lower.
 fn trial_sum(
     steps: &[i32; 89],
     settings: Settings,
@@ -257,18 +282,28 @@ fn trial_sum(
     count: usize,
     index: u8,
     limit: u64,
+    tie: u64,
+    marks: &[u64; 63],
+    trace: &mut [u64; 63],
 ) -> u64
     requires { ⌜ (now steps ≡ tables.steps) × (count ≤ 63) × (count ≤ length (now xs)) × (take count (now targets) ≡ map (normalised volume) (take count (now xs))) ⌝ }
+    requires { ⌜ (tie ≤ 2 ^ 38) × (length (now trace) ≡ 63) × Rival settings volume (take count (now xs)) index count limit tie (now marks) ⌝ }
     ensures { λ r. ⌜ Bounded limit (trialTo settings volume (take count (now (xs .entry))) index count .sum) r ⌝ }
-    ensures { λ r. ⌜ r < 2 ^ 38 ⌝ }
+    ensures { λ r. ⌜ (2 ^ 38 ≤ limit → 2 ^ 38 ≤ tie → r < limit) × (length (now (trace .exit)) ≡ 63) ⌝ }
+    ensures { λ r. ⌜ (r < limit → take count (now (trace .exit)) ≡ marksOf settings volume (take count (now (xs .entry))) index count) ⌝ }
 {
     let mut state = State::fragment_start(index);
     let mut sum: u64 = 0;
     let mut i: usize = 0;
     while i < count {
         if limit <= sum {
-            return sum;
+            return limit;
         }
+        let key = key_of(state);
+        if meets(marks[i], key, tie, sum) {
+            return limit;
+        }
+        trace[i] = sum * KEYS + key;
         let variant = settings.variant;
         let sample = xs[i];
         let target = targets[i];
@@ -299,6 +334,8 @@ pub fn best_start(
     ensures { λ r. ⌜ r .index ≡ bestTrial settings volume (take count xs) .start ⌝ }
     ensures { λ r. ⌜ r .sum ≡ bestTrial settings volume (take count xs) .sum ⌝ }
 {
+    let mut marks = [0u64; 63];
+    let mut trace = [0u64; 63];
     let bound = trial_sum(
         steps,
         settings,
@@ -308,20 +345,38 @@ pub fn best_start(
         count,
         BOUND,
         NO_LIMIT,
+        NO_LIMIT,
+        &marks,
+        &mut trace,
     );
     let mut best = Found {
         index: BOUND,
         sum: bound,
     };
+    marks = trace;
     let mut index = 0u8;
     while index < 89 {
-        let limit = best.sum + tie(index, best.index);
-        let sum = trial_sum(steps, settings, volume, &xs, &targets, count, index, limit);
+        let tie = tie(index, best.index);
+        let limit = best.sum + tie;
+        let sum = trial_sum(
+            steps,
+            settings,
+            volume,
+            &xs,
+            &targets,
+            count,
+            index,
+            limit,
+            tie,
+            &marks,
+            &mut trace,
+        );
         if sum < limit {
             best = Found {
                 index: index,
                 sum: sum,
             };
+            marks = trace;
         }
         index += 1;
     }
