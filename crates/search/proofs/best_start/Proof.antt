@@ -65,7 +65,7 @@ loop-again c =
     let t = c .before .before .before .before .before .before .before in
     let l = t .before .before .loop in
     let e = t .tie .ensures in
-    let h : l .index < 89 = t .before .loop-test .taken in
+    let h : l .index < 89 = omega (arith, t .before .loop-test .taken) in
     ⊎-elim
     (λ w. rw (w .1, w .2) (
       leading-new _ _ _ _ (l .inv .0) h e (r .0 .same (w .0 .taken)) (w .0 .taken),

@@ -1,4 +1,5 @@
 -- `search::h_next` meets its contract: what is left of the distance says where the predictor lands. Assumes nothing.
+use native.Mathlib.Omega.{arith}
 use borrow.Author.Needs.{needs}
 use Rattle.signed.proofs.Laws.{back32, read16}
 use Rattle.search.proofs.Cascade.{rest-is, h-stepped}
@@ -71,7 +72,7 @@ returns c =
     (rw (back32 (l .result) (l .ok)) (l .ensures .0))
     (rw (back32 (l .result) (l .ok)) (l .ensures .1))
     (c .moved .ensures)
-    (rw (c .before .before .before .before .count-of .ensures .0, c .before .before .before .count-of2 .ensures .0))
+    (omega (arith, c .before .before .before .before .count-of .ensures .0, c .before .before .before .count-of2 .ensures .0))
 
 pub h-next-spec : {M : Type 1} → statement M
 h-next-spec =

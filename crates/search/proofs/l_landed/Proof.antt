@@ -20,24 +20,20 @@ add-result : tie.Need-add-result
 add-result c = search needs
 
 returns : tie.Need-returns
-returns c = search needs
+returns c = record { down = λ a b. omega arith; top = λ a b. omega arith; up = λ a b. omega arith; bottom = λ a b. omega arith; small = omega arith }
 
 returns-2 : tie.Need-returns-2
-returns-2 c = search needs
+returns-2 c =
+    let l = c .before .before .pre .2 (c .before .if1 .taken) in
+    record { down = λ a b. omega arith; top = λ a b. omega arith; up = λ a b. omega arith; bottom = λ a b. omega arith; small = omega arith }
 
 returns-3 : tie.Need-returns-3
-returns-3 c = search needs
+returns-3 c = record { down = λ a b. omega arith; top = λ a b. omega arith; up = λ a b. omega arith; bottom = λ a b. omega arith; small = omega arith }
 
 returns-4 : tie.Need-returns-4
 returns-4 c =
     let l = c .before .before .pre .3 (c .before .if1 .left) in
-    record {
-      down = λ a b. absurd (omega arith);
-      top = λ a b. absurd (omega arith);
-      up = λ a b. omega arith;
-      bottom = λ a b. absurd (omega arith);
-      small = omega arith;
-    }
+    record { down = λ a b. omega arith; top = λ a b. omega arith; up = λ a b. omega arith; bottom = λ a b. omega arith; small = omega arith }
 
 pub l-landed-spec : {M : Type 1} → statement M
 l-landed-spec =

@@ -105,7 +105,7 @@ known c =
     (rw (z .second) at (c .before .before .before .before .before .before .before .before .smaller2 .ensures))
     (rw (z .third) at (c .before .before .before .before .before .before .before .smaller3 .ensures))
     (rw (z .fourth) at (c .before .before .before .before .before .before .smaller4 .ensures))
-    (rw (c .before .before .before .before .before .count-of .ensures .0, c .before .before .before .before .count-of2 .ensures .0, c .before .before .before .count-of3 .ensures .0))
+    (omega (arith, c .before .before .before .before .before .count-of .ensures .0, c .before .before .before .before .count-of2 .ensures .0, c .before .before .before .count-of3 .ensures .0))
     (rw (c .pick3 .ensures, c .before .pick2 .ensures, c .before .before .pick .ensures))
 
 l-landed-requires : tie.Need-l-landed-requires

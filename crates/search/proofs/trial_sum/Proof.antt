@@ -1,11 +1,11 @@
 -- `search::trial_sum` meets its contract: the loop keeps the definition's state and sum of the samples so far, and their marks.
 -- Assumes nothing.
 use mathlib.Core.Path.{_≡_, sym, _∙_, ap}
-use Prim.Native.Nat.{_-_, _<_}
+use Prim.Native.Nat.{_+_, _-_, _/_, _≤_, _<_}
 use native.Mathlib.Omega.{arith}
 use mir.Facts.{toZ-ofZ}
 use lib.Seq.{getD-take}
-use lib.ListN.{take}
+use lib.ListN.{getD, take}
 use lib.IntN.{pos}
 use borrow.Author.Needs.{needs}
 use Rattle.lists.proofs.ByIndex.{mapped-at}
@@ -16,13 +16,6 @@ use Rattle.search.proofs.Summed.{summed-none, summed-more, summed-all, 
 use Rattle.search.proofs.Meeting.{Traced, traced-none, traced-more, met}
 use Rattle.search.proofs.trial_sum.Statement.{statement}
 use Rattle.search.proofs.trial_sum.Tie as tie
-use Rattle.search.proofs.trial_sum.Reads as reads
-use Rattle.search.proofs.trial_sum.Lts as lts
-use Rattle.format.proofs.State.fragment_start.Reads as fragment-start-reads
-use Rattle.search.proofs.key_of.Reads as key-of-reads
-use Rattle.search.proofs.meets.Reads as meets-reads
-use Rattle.search.proofs.next_state.Reads as next-state-reads
-use Rattle.search.proofs.squared_error.Reads as squared-error-reads
 
 abbrev Inv-loop : tie.InvT-loop
 Inv-loop steps settings volume xs targets count index limit tie marks trace₀ state₀ sum₀ i₀ trace state sum i =
@@ -40,8 +33,10 @@ loop-holds c =
 
 returns : tie.Need-returns Inv-loop μ-loop
 returns c =
-    let t = c .before .before .loop .inv in
-    let h = over-limit _ _ _ _ _ (t .summed) (c .if1 .taken) in
+    let l = c .before .before in
+    let t = l .loop .inv in
+    let o : l .before .before .args .limit ≤ l .loop .sum = omega (arith, c .if1 .taken) in
+    let h = over-limit _ _ _ _ _ (t .summed) o in
     (given-up _ _ _ _ _ h, (((λ a b. omega (arith, t .summed .small)), t .room), (λ l. absurd (omega arith))))
 
 key-of-requires : tie.Need-key-of-requires Inv-loop μ-loop
@@ -54,14 +49,16 @@ element-copy-out-meets : tie.Need-element-copy-out-meets Inv-loop μ-loop
 element-copy-out-meets c = omega arith
 
 meets-requires : tie.Need-meets-requires Inv-loop μ-loop
-meets-requires c κs = c .before .before .before .before .before .before .pre .1 .0
+meets-requires c κs = omega (arith, c .before .before .before .before .before .before .pre .1 .0)
 
 returns-2 : tie.Need-returns-2 Inv-loop μ-loop
 returns-2 c =
     let m = c .before .meets .ensures (c .if2 .taken) in
     let t = c .before .before .before .before .before .before .loop .inv in
     let s = c .before .before .before .before .before .before .before .before in
-    let h = met _ _ _ _ _ (s .pre .1 .2) (t .summed) (omega arith) (c .before .before .before .key-of .ensures .0) (m .0) (m .1) in
+    let l = c .before .before .before .before .before .before .loop in
+    let o : getD (s .args .marks .now) (l .i) 0 / 8388608 + s .args .tie ≤ l .sum = omega (arith, m .1) in
+    let h = met _ _ _ _ _ (s .pre .1 .2) (t .summed) (omega arith) (c .before .before .before .key-of .ensures .0) (m .0) o in
     (given-up _ _ _ _ _ h, (((λ a b. omega (arith, t .summed .small, m .1)), t .room), (λ l. absurd (omega arith))))
 
 mul-trace : tie.Need-mul-trace Inv-loop μ-loop
