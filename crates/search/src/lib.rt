@@ -229,15 +229,15 @@ fn l_next(steps: &[i32; 89], variant: Variant, state: State, input: i32) -> Stat
     }
 }
 
-// Internal: the state after the code for a normalised sample.
+// Internal: the state after the code for a normalised sample. A call for each variant, so that its levels are constants there.
 fn next_state(steps: &[i32; 89], variant: Variant, state: State, input: i32) -> State
     requires { ⌜ (now steps ≡ tables.steps) × InRange state × (mag input ≤ 32767) ⌝ }
     ensures { λ r. ⌜ r ≡ stepped 3 variant state (codeFor variant state input) ⌝ }
 {
-    if let Variant::H = variant {
-        h_next(steps, state, input)
-    } else {
-        l_next(steps, variant, state, input)
+    match variant {
+        Variant::H => h_next(steps, state, input),
+        Variant::L => l_next(steps, Variant::L, state, input),
+        Variant::LPlus => l_next(steps, Variant::LPlus, state, input),
     }
 }
 
