@@ -24,7 +24,7 @@ const NO_LIMIT: u64 = 274877906944;
 // More than there are keys of states.
 const KEYS: u64 = 8388608;
 
-// The start whose trial gives the first limit: loud samples start with large steps.
+// The start whose trial gives the first limit: normalised samples are loud, and want large steps.
 const BOUND: u8 = 80;
 
 // The start index whose trial has the least sum, the lowest at equality, and that sum.
@@ -199,8 +199,8 @@ fn l_landed(x: u32, p: u32, twice: u32, offset: u32) -> u32
     }
 }
 
-// Internal: the state after the L or L+ code for a normalised sample, without the eight candidates: of the four toward the sample,
-// the nearest is the one that as many middles between two lie short of it.
+// Internal: the state after the L or L+ code for a normalised sample, without the eight candidates: which of the four toward the
+// sample is the nearest, as many of the three middles between them lie short of the sample.
 fn l_next(steps: &[i32; 89], variant: Variant, state: State, input: i32) -> State
     requires { ⌜ (now steps ≡ tables.steps) × InRange state × (mag input ≤ 32767) × (bits variant ≡ 3) ⌝ }
     ensures { λ r. ⌜ r ≡ stepped 3 variant state (lCode variant state input) ⌝ }
@@ -250,7 +250,7 @@ pub fn squared_error(sample: i16, state: State, volume: u8) -> u64
     signed::squared_distance(sample as i32, gain::apply_volume(predictor, volume) as i32)
 }
 
-// Internal: a state as one number.
+// Internal: a state as one number, which a trial marks at a sample together with its sum so far.
 fn key_of(state: State) -> u64
     requires { ⌜ InRange state ⌝ }
     ensures { λ r. ⌜ (r ≡ key state) × (r < 8388608) ⌝ }
@@ -259,7 +259,7 @@ fn key_of(state: State) -> u64
     128 * (signed::raise(predictor) as u64) + state.index as u64
 }
 
-// Internal: whether a trial with this key and sum stands where the marked one stood, and `tie` or more above its sum.
+// Internal: whether a trial with this key and sum stands where the marked one stood, with no sum that wins against it.
 fn meets(mark: u64, key: u64, tie: u64, sum: u64) -> bool
     requires { ⌜ tie ≤ 2 ^ 38 ⌝ }
     ensures { λ r. ⌜ (r ≡ true → (key ≡ mark % 8388608) × (mark / 8388608 + tie ≤ sum)) ⌝ }
@@ -271,8 +271,8 @@ fn meets(mark: u64, key: u64, tie: u64, sum: u64) -> bool
     }
 }
 
-// Internal: the sum of the trial of the first `count` samples from a start index, its marks left in `trace`. It is given up, and
-// the limit is answered, where its sum reaches the limit or it meets the marked trial, which ends `tie` below the limit, no lower.
+// Internal: the sum of the trial of the first `count` samples from a start index, its marks left in `trace`. It is given up, with the
+// limit as its answer, where the sum reaches the limit, and where it meets the marked trial: from there on the two go alike.
 fn trial_sum(
     steps: &[i32; 89],
     settings: Settings,
@@ -314,7 +314,7 @@ fn trial_sum(
     sum
 }
 
-// What a sum may add to the best's and still win, being less: 1 at a lower start, where a tie wins, else 0.
+// 1 where a sum equal to the best's wins, since its start is the lower, else 0: the sums below the best's with this added win.
 fn tie(index: u8, best: u8) -> u64
     ensures { λ r. ⌜ Tie index best r ⌝ }
 {
