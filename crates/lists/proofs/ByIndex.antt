@@ -5,9 +5,9 @@ use native.Mathlib.Omega.{arith}
 use native.Mathlib.Nat.{mul-le-mul-right, le-of-eq}
 use native.Mathlib.Numerals.{add-one}
 use native.Mathlib.Decide.{decLt}
-use mathlib.Core.List.{List, [], _∷_, _++_}
+use mathlib.Core.List.{List, [], _∷_, _++_, map}
 use lib.ListN.{length, getD, take, drop, set, length-append, length-take, length-drop, List·getD-append}
-use lib.Seq.{take-suc-set, drop-at, getD-at, take-all, take-append-le, drop-append-le, ext-getD, getD-take, getD-drop}
+use lib.Seq.{take-suc-set, drop-at, getD-at, take-all, take-append-le, drop-append-le, ext-getD, getD-take, getD-drop, length-take-le}
 use Rattle.lists.specs.Lists.{tabulate, joined}
 
 module _ {ℓ} {A : Type ℓ} where
@@ -86,3 +86,19 @@ module _ {A : Type 0} where
           ∙ getD-drop k (tabulate g n) i d
           ∙ getD-tabulate g n (k + i) d (omega arith)
           ∙ sym (getD-tabulate (λ w. g (k + w)) (min m (n - k)) i d h)
+
+-- ---- map
+
+module _ {A B : Type 0} (f : A → B) where
+  map-at : (xs : List A) (i : ℕ) (d : A) (e : B) → i < length xs → getD (map f xs) i e ≡ f (getD xs i d)
+  map-at [] i d e h = let z : ⊥ = omega arith in absurd z
+  map-at (x ∷ xs) zero d e h = refl
+  map-at (x ∷ xs) (suc i) d e h = map-at xs i d e (omega arith)
+
+  -- of two arrays, of which only the first n places are meant
+  pub mapped-at : (xs : List A) (n : ℕ) (ts : List B) (d : A) (e : B) → take n ts ≡ map f (take n xs) → n ≤ length xs
+      → (i : ℕ) → i < n → getD ts i e ≡ f (getD (take n xs) i d)
+  mapped-at xs n ts d e m h i l =
+      sym (getD-take n ts i e l)
+      ∙ ap (λ (t : List B). getD t i e) m
+      ∙ map-at (take n xs) i d e (rw length-take-le l)

@@ -1,5 +1,5 @@
 -- The least of a numbered family: nothing costs less, and everything before it costs more. Assumes nothing.
-use mathlib.Core.Path.{_≡_, refl, subst}
+use mathlib.Core.Path.{_≡_, refl, subst, _∙_, ap}
 use Prim.Native.Nat.{ℕ, zero, suc, _≤_, _<_}
 use native.Mathlib.Omega.{arith}
 use native.Mathlib.Decide.{decLt}
@@ -54,6 +54,19 @@ module _ {A : Type 0} (cost : A → ℕ) (f : ℕ → A) where
             lowest = up-to n best (r .lowest) (more tt);
             first = r .first;
           }
+
+  -- there is one at most
+  pub least-at : (n place : ℕ) → place ≤ n → ((i : ℕ) → i ≤ n → cost (f place) ≤ cost (f i)) → ((i : ℕ) → i < place → cost (f place) < cost (f i))
+      → least cost f n ≡ f place
+  least-at n place h lowest first = go (decLt (l .place) place) (decLt place (l .place))
+    where
+      l : Least cost f n (least cost f n)
+      l = least-is n
+
+      go : Dec (l .place < place) → Dec (place < l .place) → least cost f n ≡ f place
+      go (yes a) b = absurd (omega (arith, first (l .place) a, l .lowest place h, ap cost (l .is)))
+      go (no a) (yes b) = absurd (omega (arith, l .first place b, lowest (l .place) (l .within), ap cost (l .is)))
+      go (no a) (no b) = let e : l .place ≡ place = omega arith in l .is ∙ ap f e
 
   -- one more, by the test that a loop makes
   pub least-taken : (n : ℕ) → cost (f (suc n)) < cost (least cost f n) → least cost f (suc n) ≡ f (suc n)

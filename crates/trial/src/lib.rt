@@ -1,15 +1,13 @@
-// Encoding one fragment: the trial from one start index, the search over the starts 0..=88, and the fragment's bytes.
+// Encoding one fragment: the trial from one start index, the best of all, which `search` finds, and the fragment's bytes.
 ghost use mathlib.Core.Path.{_≡_};
 ghost use mathlib.Core.List.{_∷_, map};
 ghost use Prim.Native.Nat.{ℕ, _-_, _<_, _≤_, _^_};
-ghost use lib.IntN.{natAbs, _-ℤ_};
 ghost use lib.ListN.{length, getD, take};
-ghost use lib.Signed.{mag};
 ghost use Rattle.digits.specs.Digits.{number, packed};
 ghost use Rattle.format.specs.Tables as tables;
 ghost use Rattle.format.specs.Layout.{bits, fragmentSize};
-ghost use Rattle.format.specs.Gain.{pregained, normalised, outputGain};
-ghost use Rattle.format.specs.Encode.{square, trialTo, bestTrial, bestOrSilent, encodedFragment};
+ghost use Rattle.format.specs.Gain.{pregained, normalised};
+ghost use Rattle.format.specs.Encode.{trialTo, bestTrial, bestOrSilent, encodedFragment};
 use format::Settings;
 use format::State;
 
@@ -22,7 +20,7 @@ pub struct Trial {
     pub sum: u64,
 }
 
-// The best trial so far, with its start index.
+// The best trial, with its start index.
 pub struct Best {
     pub index: u8,
     pub codes: [u8; 63],
@@ -57,15 +55,6 @@ fn normalized(xs: [i16; 63], count: usize, volume: u8) -> [i16; 63]
     targets
 }
 
-// Internal: the square of the distance from a pre-gained sample to the sample that a state gives.
-fn squared_error(sample: i16, state: State, volume: u8) -> u64
-    requires { ⌜ mag (state .predictor) ≤ 32767 ⌝ }
-    ensures { λ r. ⌜ (r ≡ square (natAbs (sample -ℤ outputGain 3 volume (state .predictor)))) × (r ≤ 4294967296) ⌝ }
-{
-    let predictor = state.predictor;
-    signed::squared_distance(sample as i32, gain::apply_volume(predictor, volume) as i32)
-}
-
 // Internal: the trial of the first `count` samples from a start index. `targets` are the samples normalised.
 fn run_trial(
     steps: &[i32; 89],
@@ -91,7 +80,7 @@ fn run_trial(
         let code = choice::encode_code(steps, variant, state, target as i32);
         state = adpcm::update(steps, VERSION, variant, state, code);
         codes[i] = code;
-        sum += squared_error(sample, state, volume);
+        sum += search::squared_error(sample, state, volume);
         i += 1;
     }
     Trial { codes, sum }
@@ -111,27 +100,14 @@ fn best_trial(
     ensures { λ r. ⌜ r .sum ≡ bestTrial settings volume (take count xs) .sum ⌝ }
 {
     let targets = normalized(xs, count, volume);
-    let first = run_trial(steps, settings, volume, xs, targets, count, 0);
-    let codes = first.codes;
-    let mut best = Best {
-        index: 0,
+    let found = search::best_start(steps, settings, volume, xs, targets, count);
+    let trial = run_trial(steps, settings, volume, xs, targets, count, found.index);
+    let codes = trial.codes;
+    Best {
+        index: found.index,
         codes: codes,
-        sum: first.sum,
-    };
-    let mut index = 1u8;
-    while index < 89 {
-        let next = run_trial(steps, settings, volume, xs, targets, count, index);
-        if next.sum < best.sum {
-            let codes = next.codes;
-            best = Best {
-                index: index,
-                codes: codes,
-                sum: next.sum,
-            };
-        }
-        index += 1;
+        sum: found.sum,
     }
-    best
 }
 
 // Internal: the best trial; for silence, where the volume is 0, index 0 and zero codes.

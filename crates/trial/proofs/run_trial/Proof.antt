@@ -13,7 +13,7 @@ use Rattle.signed.proofs.Laws.{back16}
 use Rattle.format.proofs.Range.{stepped-range}
 use Rattle.format.specs.Gain.{normalised}
 use Rattle.trial.proofs.Tried.{Tried, tried-none, tried-more, tried-all}
-use Rattle.trial.proofs.Mapping.{mapped-at}
+use Rattle.lists.proofs.ByIndex.{mapped-at}
 use Rattle.trial.proofs.run_trial.Statement.{statement}
 use Rattle.trial.proofs.run_trial.Tie as tie
 
@@ -49,14 +49,14 @@ encode-code-requires : tie.Need-encode-code-requires Inv-loop μ-loop
 encode-code-requires c κs =
     let l = c .before .before .before in (
       l .before .before .pre .0,
-      l .loop .inv .range,
+      l .loop .inv .summed .range,
       rw (toZ-ofZ (cast-encode-code c), back16 _ (c .target .given)) (omega (arith, c .target .given)),
     )
 
 update-requires : tie.Need-update-requires Inv-loop μ-loop
 update-requires c κs =
     let l = c .before .before .before .before in
-    (l .before .before .pre .0, l .loop .inv .range, c .encode-code .ensures .1)
+    (l .before .before .pre .0, l .loop .inv .summed .range, c .encode-code .ensures .1)
 
 array-write-codes : tie.Need-array-write-codes Inv-loop μ-loop
 array-write-codes c = omega arith
@@ -83,7 +83,7 @@ loop-again c =
     let room : a .count ≤ length (a .t4) = omega (arith, good-length (eSInt w16) 63 (a .t4) _ (s .good .1 .1 .1 .0), s .pre .1) in
     let h : l .loop .i < a .count = omega arith in
     let x = getD-take (a .count) (a .t4) (l .loop .i) (pos 0) h in
-    let y = mapped-at (normalised (a .volume)) (a .t4) (a .count) (a .t5) (s .pre .2) room (l .loop .i) h in
+    let y = mapped-at (normalised (a .volume)) (a .t4) (a .count) (a .t5) (pos 0) (pos 0) (s .pre .2) room (l .loop .i) h in
     tried-more _ _ _ _ _ (l .loop .inv) h (sym x) (y ∙ ap (normalised (a .volume)) x)
     (rw (toZ-ofZ (cast-encode-code t), back16 _ (t .target .given)) at (e .encode-code .ensures .0))
     (c .before .update .ensures)

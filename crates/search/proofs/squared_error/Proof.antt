@@ -1,12 +1,12 @@
--- `trial::squared_error` meets its contract: both samples fit 16 bits, so the distance is at most 65536. Assumes nothing.
+-- `search::squared_error` meets its contract: both samples fit 16 bits, so the distance is at most 65536. Assumes nothing.
 use Prim.Native.Nat.{_≤_}
 use native.Mathlib.Omega.{arith}
 use mir.Facts.{toZ-ofZ, sfits-widen}
 use lib.IntN.{natAbs, _-ℤ_}
 use borrow.Author.Needs.{needs}
 use Rattle.signed.proofs.Laws.{back16, read16, abs16, natAbs-sub, product-le}
-use Rattle.trial.proofs.squared_error.Statement.{statement}
-use Rattle.trial.proofs.squared_error.Tie as tie
+use Rattle.search.proofs.squared_error.Statement.{statement}
+use Rattle.search.proofs.squared_error.Tie as tie
 
 cast-squared-distance : tie.Need-cast-squared-distance
 cast-squared-distance c = rw (toZ-ofZ (c .before .fits .sample)) (sfits-widen tt (c .before .fits .sample))

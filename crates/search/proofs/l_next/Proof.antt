@@ -1,0 +1,185 @@
+-- `search::l_next` meets its contract: three tests choose the code. Assumes nothing.
+use Prim.Native.Nat.{_+_, _*_}
+use native.Mathlib.Omega.{arith}
+use lib.Dec.{ltb}
+use borrow.Author.Needs.{needs}
+use Rattle.signed.proofs.Laws.{back32, read16}
+use Rattle.search.proofs.Nearest.{Chosen, cut}
+use Rattle.search.proofs.Choice.{sizeAt, l-chosen, l-stepped}
+use Rattle.search.proofs.l_next.Statement.{statement}
+use Rattle.search.proofs.l_next.Tie as tie
+
+step-size-requires : tie.Need-step-size-requires
+step-size-requires c κs = search needs
+
+raise-requires : tie.Need-raise-requires
+raise-requires c κs = search needs
+
+raise-requires-2 : tie.Need-raise-requires-2
+raise-requires-2 c κs = search needs
+
+gap-requires : tie.Need-gap-requires
+gap-requires c κs = search needs
+
+mul-twice : tie.Need-mul-twice
+mul-twice c = search needs
+
+room-requires : tie.Need-room-requires
+room-requires c κs = search needs
+
+l-sizes-requires : tie.Need-l-sizes-requires
+l-sizes-requires c κs = search needs
+
+smaller-requires : tie.Need-smaller-requires
+smaller-requires c κs = search needs
+
+smaller-requires-2 : tie.Need-smaller-requires-2
+smaller-requires-2 c κs = search needs
+
+smaller-requires-3 : tie.Need-smaller-requires-3
+smaller-requires-3 c κs = search needs
+
+smaller-requires-4 : tie.Need-smaller-requires-4
+smaller-requires-4 c κs = search needs
+
+add-count-of : tie.Need-add-count-of
+add-count-of c = search needs
+
+count-of-requires : tie.Need-count-of-requires
+count-of-requires c κs = search needs
+
+add-count-of-2 : tie.Need-add-count-of-2
+add-count-of-2 c = search needs
+
+count-of-requires-2 : tie.Need-count-of-requires-2
+count-of-requires-2 c κs = search needs
+
+add-m : tie.Need-add-m
+add-m c = search needs
+
+add-count-of-3 : tie.Need-add-count-of-3
+add-count-of-3 c = search needs
+
+count-of-requires-3 : tie.Need-count-of-requires-3
+count-of-requires-3 c κs = search needs
+
+add-m-2 : tie.Need-add-m-2
+add-m-2 c = search needs
+
+add-pick : tie.Need-add-pick
+add-pick c = search needs
+
+add-pick-2 : tie.Need-add-pick-2
+add-pick-2 c = search needs
+
+add-pick-3 : tie.Need-add-pick-3
+add-pick-3 c = search needs
+
+pick-requires : tie.Need-pick-requires
+pick-requires c κs = search needs
+
+pick-requires-2 : tie.Need-pick-requires-2
+pick-requires-2 c κs = search needs
+
+pick-requires-3 : tie.Need-pick-requires-3
+pick-requires-3 c κs = search needs
+
+-- what the three tests choose
+known : (c : tie.After-pick3) →
+    let g = c .before .before .before .before .before .before .before .before .before .before .before .before in
+    let s = c .before .before .before .before .before .before .before .before .before .before .before .before .before .before .before .before .before in
+    Chosen (g .gap .result) (cut (sizeAt (s .args .variant) (c .before .before .before .before .before .before .before .before .before .before .before .before .before .before .before .step-size .result)) (c .before .before .before .before .before .before .before .before .before .before .before .room .result))
+    (c .before .before .before .before .before .count-of .result + c .before .before .before .before .count-of2 .result + c .before .before .before .count-of3 .result)
+    (c .pick3 .result)
+    (ltb (c .before .before .before .before .before .before .before .before .before .smaller .result + c .before .before .before .before .before .before .before .before .smaller2 .result) (2 * g .gap .result))
+known c =
+    let s = c .before .before .before .before .before .before .before .before .before .before .before .before .before .before .before .before .before in
+    let z = c .before .before .before .before .before .before .before .before .before .before .l-sizes .ensures in
+    let m = c .before .before .before .before .before .before .before .before .before .before .before .room .ensures in
+    l-chosen (s .args .variant) (s .args .state) (s .args .input) (s .pre .3) (s .pre .1) (s .pre .2) _ _ _
+    (c .before .before .before .before .before .before .before .before .before .before .before .before .before .before .before .step-size .ensures .0)
+    (rw (read16 (s .args .input) (s .pre .2)) at (c .before .before .before .before .before .before .before .before .before .before .before .before .before .before .raise .ensures .0))
+    (rw (read16 (s .args .state .predictor) (s .pre .1 .predictor)) at (c .before .before .before .before .before .before .before .before .before .before .before .before .before .raise2 .ensures .0))
+    _ _ (c .before .before .before .before .before .before .before .before .before .before .before .before .gap .ensures) (m .0) (m .1) (c .before .before .before .before .before .before .before .before .before .before .before .before .before .before .raise .ensures .1) (c .before .before .before .before .before .before .before .before .before .before .before .before .before .raise2 .ensures .1)
+    (rw (z .first) at (c .before .before .before .before .before .before .before .before .before .smaller .ensures))
+    (rw (z .second) at (c .before .before .before .before .before .before .before .before .smaller2 .ensures))
+    (rw (z .third) at (c .before .before .before .before .before .before .before .smaller3 .ensures))
+    (rw (z .fourth) at (c .before .before .before .before .before .before .smaller4 .ensures))
+    (omega (arith, c .before .before .before .before .before .count-of .ensures .0, c .before .before .before .before .count-of2 .ensures .0, c .before .before .before .count-of3 .ensures .0))
+    (rw (c .pick3 .ensures, c .before .pick2 .ensures, c .before .before .pick .ensures))
+
+l-landed-requires : tie.Need-l-landed-requires
+l-landed-requires c κs =
+    let m = c .before .before .before .before .before .before .before .before .before .before .before .room .ensures in
+    let v = known c .value in (
+      c .before .before .before .before .before .before .before .before .before .before .before .before .before .raise2 .ensures .1,
+      omega (arith, c .before .before .before .before .before .before .before .before .before .before .before .before .gap .ensures, c .before .before .before .before .before .before .before .before .before .before .before .before .before .raise2 .ensures .1, c .before .before .before .before .before .before .before .before .before .before .before .before .before .before .raise .ensures .1),
+      (λ l. omega (arith, v, m .0 l)),
+      (λ l. omega (arith, v, m .1 l)),
+    )
+
+lower-requires : tie.Need-lower-requires
+lower-requires c κs = search needs
+
+add-moved : tie.Need-add-moved
+add-moved c = search needs
+
+mul-moved : tie.Need-mul-moved
+mul-moved c = search needs
+
+moved-requires : tie.Need-moved-requires
+moved-requires c κs = (c .before .before .before .before .before .before .before .before .before .before .before .before .before .before .before .before .before .before .before .pre .1 .index, omega (arith, known (c .before .before) .within))
+
+returns : tie.Need-returns
+returns c =
+    let k = c .before .before .before in
+    let s = k .before .before .before .before .before .before .before .before .before .before .before .before .before .before .before .before .before in
+    let m = k .before .before .before .before .before .before .before .before .before .before .before .room .ensures in
+    let l = c .before .lower in
+    l-stepped (s .args .variant) (s .args .state) (s .args .input) (s .pre .3) (s .pre .1) (s .pre .2) _ _ _
+    (k .before .before .before .before .before .before .before .before .before .before .before .before .before .before .before .step-size .ensures .0)
+    (rw (read16 (s .args .input) (s .pre .2)) at (k .before .before .before .before .before .before .before .before .before .before .before .before .before .before .raise .ensures .0))
+    (rw (read16 (s .args .state .predictor) (s .pre .1 .predictor)) at (k .before .before .before .before .before .before .before .before .before .before .before .before .before .raise2 .ensures .0))
+    _ _ (k .before .before .before .before .before .before .before .before .before .before .before .before .gap .ensures) (m .0) (m .1) (k .before .before .before .before .before .before .before .before .before .before .before .before .before .before .raise .ensures .1) (k .before .before .before .before .before .before .before .before .before .before .before .before .before .raise2 .ensures .1)
+    (known k)
+    (c .before .before .l-landed .ensures)
+    _ _
+    (rw (back32 (l .result) (l .ok)) (l .ensures .0))
+    (rw (back32 (l .result) (l .ok)) (l .ensures .1))
+    (c .moved .ensures)
+
+pub l-next-spec : {M : Type 1} → statement M
+l-next-spec =
+    tie.close
+    (tie.spec
+    step-size-requires
+    raise-requires
+    raise-requires-2
+    gap-requires
+    mul-twice
+    room-requires
+    l-sizes-requires
+    smaller-requires
+    smaller-requires-2
+    smaller-requires-3
+    smaller-requires-4
+    add-count-of
+    count-of-requires
+    add-count-of-2
+    count-of-requires-2
+    add-m
+    add-count-of-3
+    count-of-requires-3
+    add-m-2
+    add-pick
+    add-pick-2
+    add-pick-3
+    pick-requires
+    pick-requires-2
+    pick-requires-3
+    l-landed-requires
+    lower-requires
+    add-moved
+    mul-moved
+    moved-requires
+    returns)
