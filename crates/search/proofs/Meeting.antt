@@ -1,22 +1,21 @@
 -- Two trials that stand at one state go on alike: the marks of a trial, and what they say of another. Assumes nothing.
 use mathlib.Core.Path.{_≡_, refl, sym, _∙_, ap}
 use mathlib.Core.List.{List}
-use Prim.Native.Nat.{ℕ, zero, suc, _+_, _-_, _*_, _/_, _%_, _≤_, _<_, _^_}
+use Prim.Native.Nat.{ℕ, zero, suc, _+_, _-_, _*_, _/_, _%_, _≤_, _<_}
 use native.Mathlib.Nat.{zero-add, suc-add}
 use native.Mathlib.Omega.{arith}
-use lib.IntN.{ℤ, pos}
+use lib.IntN.{ℤ}
 use lib.ListN.{length, getD, set, take, length-set}
 use lib.Seq.{getD-take}
 use Rattle.lists.specs.Lists.{tabulate}
 use Rattle.lists.proofs.ByIndex.{getD-tabulate, fill-next}
-use Rattle.signed.specs.Signed.{raised}
 use Rattle.signed.proofs.Raised.{raised-high, raised-same}
 use Rattle.format.specs.Decode.{InRange}
 use Rattle.format.specs.Encode.{trialStep, trialTo}
 use Rattle.format.specs.declared.Settings.{Settings}
 use Rattle.format.specs.declared.State.{State}
 use Rattle.format.proofs.Range.{start-range, stepped-range}
-use Rattle.search.specs.Search.{Tie, key, markOf, marksOf, Rival}
+use Rattle.search.specs.Search.{key, markOf, marksOf, Rival}
 use Rattle.search.proofs.Summed.{Summed, rises}
 
 -- ---- a state and its key

@@ -4,10 +4,10 @@ use mathlib.Core.Bool.{Bool, true, false, cond}
 use Prim.Native.Nat.{ℕ, suc, _+_, _-_, _/_, _≤_, _<_, min}
 use native.Mathlib.Decide.{decLt}
 use native.Mathlib.Omega.{arith}
-use lib.Dec.{leb, ltb, ltb→lt, nltb→le}
-use lib.IntN.{ℤ, pos, negsuc, natAbs, subℕ, _+ℤ_, _-ℤ_}
+use lib.Dec.{leb, ltb, ltb→lt}
+use lib.IntN.{ℤ, pos, negsuc, subℕ, _+ℤ_}
 use lib.ListN.{getD}
-use lib.Signed.{mag, ltZ}
+use lib.Signed.{mag}
 use borrow.Author.Tests.{le-leb, lt-leb, lt-ltb, le-ltb}
 use Rattle.signed.specs.Signed.{withSign, clamp16, clampTo, raised}
 use Rattle.signed.proofs.Laws.{cond-ind, clamp-fits}
@@ -15,7 +15,7 @@ use Rattle.signed.proofs.Raised.{raised-same, raised-less, raised-apart, raised
 use Rattle.format.specs.Tables.{hIndexAdjust}
 use Rattle.format.specs.Step.{stepAt, bitSet, part, hSize, difference, unclampedPredictor, unclampedIndex, stepped}
 use Rattle.format.specs.Decode.{InRange}
-use Rattle.format.specs.Encode.{fitBit, takeOff, hCode}
+use Rattle.format.specs.Encode.{takeOff, hCode}
 use Rattle.format.specs.declared.State.{State}
 use Rattle.format.specs.declared.Variant.the-variants.{H}
 

@@ -1,13 +1,13 @@
--- `search::l_next` meets its contract: three tests choose the code. Assumes nothing.
+-- `advance::l_next` meets its contract: three tests choose the code. Assumes nothing.
 use Prim.Native.Nat.{_+_, _*_}
 use native.Mathlib.Omega.{arith}
 use lib.Dec.{ltb}
 use borrow.Author.Needs.{needs}
 use Rattle.signed.proofs.Laws.{back32, read16}
-use Rattle.search.proofs.Nearest.{Chosen, cut}
-use Rattle.search.proofs.Choice.{sizeAt, l-chosen, l-stepped}
-use Rattle.search.proofs.l_next.Statement.{statement}
-use Rattle.search.proofs.l_next.Tie as tie
+use Rattle.advance.proofs.Nearest.{Chosen, cut}
+use Rattle.advance.proofs.Choice.{sizeAt, l-chosen, l-stepped}
+use Rattle.advance.proofs.l_next.Statement.{statement}
+use Rattle.advance.proofs.l_next.Tie as tie
 
 step-size-requires : tie.Need-step-size-requires
 step-size-requires c κs = search needs

@@ -1,10 +1,10 @@
--- `search::h_next` meets its contract: what is left of the distance says where the predictor lands. Assumes nothing.
+-- `advance::h_next` meets its contract: what is left of the distance says where the predictor lands. Assumes nothing.
 use native.Mathlib.Omega.{arith}
 use borrow.Author.Needs.{needs}
 use Rattle.signed.proofs.Laws.{back32, read16}
-use Rattle.search.proofs.Cascade.{rest-is, h-stepped}
-use Rattle.search.proofs.h_next.Statement.{statement}
-use Rattle.search.proofs.h_next.Tie as tie
+use Rattle.advance.proofs.Cascade.{rest-is, h-stepped}
+use Rattle.advance.proofs.h_next.Statement.{statement}
+use Rattle.advance.proofs.h_next.Tie as tie
 
 step-size-requires : tie.Need-step-size-requires
 step-size-requires c κs = search needs

@@ -1,7 +1,7 @@
--- `search::moved` meets its contract. Assumes nothing.
+-- `advance::moved` meets its contract. Assumes nothing.
 use borrow.Author.Needs.{needs}
-use Rattle.search.proofs.moved.Statement.{statement}
-use Rattle.search.proofs.moved.Tie as tie
+use Rattle.advance.proofs.moved.Statement.{statement}
+use Rattle.advance.proofs.moved.Tie as tie
 
 add-at-most-88 : tie.Need-add-at-most-88
 add-at-most-88 c = search needs

@@ -1,10 +1,10 @@
--- `search::l_sizes` meets its contract. Assumes nothing.
+-- `advance::l_sizes` meets its contract. Assumes nothing.
 use borrow.Author.Needs.{needs}
 use Rattle.format.specs.Tables.{lLevels, lPlusLevels}
 use Rattle.format.specs.Step.{levelOf}
-use Rattle.search.proofs.Choice.{is-l-plus}
-use Rattle.search.proofs.l_sizes.Statement.{statement}
-use Rattle.search.proofs.l_sizes.Tie as tie
+use Rattle.advance.proofs.Choice.{is-l-plus}
+use Rattle.advance.proofs.l_sizes.Statement.{statement}
+use Rattle.advance.proofs.l_sizes.Tie as tie
 
 enum-told : tie.Need-enum-told
 enum-told c = search needs

@@ -1,8 +1,8 @@
--- `search::l_landed` meets its contract. Assumes nothing.
+-- `advance::l_landed` meets its contract. Assumes nothing.
 use native.Mathlib.Omega.{arith}
 use borrow.Author.Needs.{needs}
-use Rattle.search.proofs.l_landed.Statement.{statement}
-use Rattle.search.proofs.l_landed.Tie as tie
+use Rattle.advance.proofs.l_landed.Statement.{statement}
+use Rattle.advance.proofs.l_landed.Tie as tie
 
 sub-if2 : tie.Need-sub-if2
 sub-if2 c = search needs

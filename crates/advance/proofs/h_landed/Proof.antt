@@ -1,8 +1,8 @@
--- `search::h_landed` meets its contract. Assumes nothing.
+-- `advance::h_landed` meets its contract. Assumes nothing.
 use native.Mathlib.Omega.{arith}
 use borrow.Author.Needs.{needs}
-use Rattle.search.proofs.h_landed.Statement.{statement}
-use Rattle.search.proofs.h_landed.Tie as tie
+use Rattle.advance.proofs.h_landed.Statement.{statement}
+use Rattle.advance.proofs.h_landed.Tie as tie
 
 add-less : tie.Need-add-less
 add-less c = search needs

@@ -1,8 +1,8 @@
--- `search::next_state` meets its contract. Assumes nothing.
+-- `advance::next_state` meets its contract. Assumes nothing.
 use borrow.Author.Needs.{needs}
 use Rattle.signed.proofs.Laws.{read16}
-use Rattle.search.proofs.next_state.Statement.{statement}
-use Rattle.search.proofs.next_state.Tie as tie
+use Rattle.advance.proofs.next_state.Statement.{statement}
+use Rattle.advance.proofs.next_state.Tie as tie
 
 enum-told : tie.Need-enum-told
 enum-told c = search needs

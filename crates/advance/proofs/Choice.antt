@@ -8,16 +8,14 @@ use native.Mathlib.Omega.{arith}
 use types.Run.{OneOf, miss}
 use denote.Enum.Declared.{tagOf}
 use lib.Dec.{ltb}
-use lib.IntN.{ℤ, pos, negsuc, natAbs, _+ℤ_, _-ℤ_}
-use lib.ListN.{getD}
+use lib.IntN.{ℤ}
 use lib.Signed.{mag}
 use Rattle.lists.proofs.Least.{least-at}
-use Rattle.signed.specs.Signed.{withSign, clamp16, clampTo, raised}
-use Rattle.signed.proofs.Laws.{clamp-fits}
+use Rattle.signed.specs.Signed.{raised}
 use Rattle.signed.proofs.Raised.{raised-same, raised-apart, raised-down, raised-up}
-use Rattle.format.specs.Tables.{lLevels, lPlusLevels, lIndexAdjust}
+use Rattle.format.specs.Tables.{lLevels, lPlusLevels}
 use Rattle.format.specs.Layout.{bits}
-use Rattle.format.specs.Step.{stepAt, bitSet, lSize, levelOf, difference, adjustment, unclampedPredictor, unclampedIndex, stepped}
+use Rattle.format.specs.Step.{stepAt, bitSet, lSize, levelOf, unclampedPredictor, unclampedIndex, stepped}
 use Rattle.format.specs.Decode.{InRange}
 use Rattle.format.specs.Encode.{Choice, choice, lCode}
 use Rattle.format.specs.declared.State.{State}
@@ -26,9 +24,9 @@ use Rattle.format.specs.declared.Variant.the-variants.{H, L, LPlus}
 use Rattle.format.proofs.Range.{stepped-range}
 use Rattle.format.proofs.Variant.{the-type}
 use Rattle.adpcm.proofs.Bounds.{difference-three, adjustment-three, step-low}
-use Rattle.search.specs.Search.{Landed}
-use Rattle.search.proofs.Cascade.{index-moved}
-use Rattle.search.proofs.Nearest.{apart, Chosen, chosen, Lowest, cut, rises, differ, first-only, up-near, up-far, down-near, down-far}
+use Rattle.advance.specs.Advance.{Landed}
+use Rattle.advance.proofs.Cascade.{index-moved}
+use Rattle.advance.proofs.Nearest.{apart, Chosen, chosen, Lowest, cut, rises, differ, first-only, up-near, up-far, down-near, down-far}
 
 -- what `if let Variant::L = variant { .. } else { .. }` knows in its second arm
 pub is-l-plus : (variant : Variant) → OneOf (0 ∷ 2 ∷ []) (tagOf the-type variant) → bits variant ≡ 3 → variant ≡ LPlus

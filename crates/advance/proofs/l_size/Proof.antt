@@ -1,10 +1,10 @@
--- `search::l_size` meets its contract. Assumes nothing.
+-- `advance::l_size` meets its contract. Assumes nothing.
 use mathlib.Core.Path.{refl}
 use native.Mathlib.Omega.{arith}
 use Rattle.signed.proofs.Laws.{product-le}
 use Rattle.format.specs.Step.{lSize}
-use Rattle.search.proofs.l_size.Statement.{statement}
-use Rattle.search.proofs.l_size.Tie as tie
+use Rattle.advance.proofs.l_size.Statement.{statement}
+use Rattle.advance.proofs.l_size.Tie as tie
 
 mul-result : tie.Need-mul-result
 mul-result c = omega (arith, product-le 14 32767 (c .pre .0) (c .pre .1))

@@ -1,0 +1,3 @@
+pub mod Cascade
+pub mod Nearest
+pub mod Choice
