@@ -1,7 +1,7 @@
 -- Two trials that stand at one state go on alike: the marks of a trial, and what they say of another. Assumes nothing.
 use mathlib.Core.Path.{_≡_, refl, sym, _∙_, ap}
 use mathlib.Core.List.{List}
-use Prim.Native.Nat.{ℕ, zero, suc, _+_, _-_, _*_, _/_, _%_, _≤_, _<_}
+use Prim.Native.Nat.{ℕ, zero, suc, _+_, _-_, _*_, _/_, _%_, _≤_, _<_, _^_}
 use native.Mathlib.Nat.{zero-add, suc-add}
 use native.Mathlib.Omega.{arith}
 use lib.IntN.{ℤ}
@@ -15,7 +15,7 @@ use Rattle.format.specs.Encode.{trialStep, trialTo}
 use Rattle.format.specs.declared.Settings.{Settings}
 use Rattle.format.specs.declared.State.{State}
 use Rattle.format.proofs.Range.{start-range, stepped-range}
-use Rattle.search.specs.Search.{key, markOf, marksOf, Rival}
+use Rattle.search.specs.Search.{key, markOf, marksOf, Unmarked, Rival}
 use Rattle.search.proofs.Summed.{Summed, rises}
 
 -- ---- a state and its key
@@ -78,15 +78,15 @@ module _ (k : Settings) (v : ℕ) (xs : List ℤ) (index n : ℕ) where
 
 -- ---- the marks of the best trial, for the next
 
--- a tie that no sum reaches
-pub no-rival : (k : Settings) (v : ℕ) (xs : List ℤ) (index n limit : ℕ) (marks : List ℕ) → Rival k v xs index n limit limit marks
-no-rival k v xs index n limit marks = record { loses = λ i h a b. over i h b }
+-- before the first
+pub no-rival : (k : Settings) (v : ℕ) (xs : List ℤ) (index n tie : ℕ) (marks : List ℕ) → Unmarked n marks → Rival k v xs index n (2 ^ 38 + tie) tie marks
+no-rival k v xs index n tie marks u = record { loses = λ i h a b. over i h b }
   where
-    over : (i : ℕ) → i < n → getD marks i 0 / 8388608 + limit ≤ trialTo k v xs index i .sum → limit ≤ trialTo k v xs index n .sum
+    over : (i : ℕ) → i < n → getD marks i 0 / 8388608 + tie ≤ trialTo k v xs index i .sum → 2 ^ 38 + tie ≤ trialTo k v xs index n .sum
     over i h b =
         let e : n - i + i ≡ n = omega arith in
         let r = rw e at (rises k v xs index n i (n - i)) in
-        omega arith
+        omega (arith, u .high i h)
 
 module _ (k : Settings) (v : ℕ) (xs : List ℤ) (best index n : ℕ) (marks : List ℕ) (m : take n marks ≡ marksOf k v xs best n) where
   mark-at : (i : ℕ) → i < n → getD marks i 0 ≡ markOf (trialTo k v xs best i)

@@ -1,7 +1,7 @@
 -- What the parts of the search promise: a trial that may be given up, and which sums win. Assumes nothing.
 use mathlib.Core.Path.{_≡_}
 use mathlib.Core.List.{List}
-use Prim.Native.Nat.{ℕ, _+_, _*_, _/_, _%_, _≤_, _<_}
+use Prim.Native.Nat.{ℕ, _+_, _*_, _/_, _%_, _^_, _≤_, _<_}
 use lib.IntN.{ℤ}
 use lib.ListN.{getD}
 use Rattle.lists.specs.Lists.{tabulate}
@@ -20,6 +20,10 @@ markOf t = t .sum * 8388608 + key (t .state)
 -- the marks of the trial from a start index, before each sample
 unfoldable pub marksOf : Settings → ℕ → List ℤ → ℕ → ℕ → List ℕ
 marksOf k v xs index n = tabulate (λ i. markOf (trialTo k v xs index i)) n
+
+-- the marks have sums that no trial reaches
+pub record Unmarked (n : ℕ) (marks : List ℕ) : Type 0 where
+  pub high : (i : ℕ) → i < n → 2 ^ 38 ≤ getD marks i 0 / 8388608
 
 -- the marks are such that the trial from a start index does not end below the limit, if it stands at a marked state with a sum
 -- that is `tie` or more above the marked one

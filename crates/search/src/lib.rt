@@ -10,7 +10,7 @@ ghost use Rattle.format.specs.Tables as tables;
 ghost use Rattle.format.specs.Gain.{normalised, outputGain};
 ghost use Rattle.format.specs.Decode.{InRange};
 ghost use Rattle.format.specs.Encode.{square, trialTo, bestTrial};
-ghost use Rattle.search.specs.Search.{key, marksOf, Rival, Bounded, Tie};
+ghost use Rattle.search.specs.Search.{key, marksOf, Unmarked, Rival, Bounded, Tie};
 use format::Settings;
 use format::State;
 
@@ -19,6 +19,9 @@ const NO_LIMIT: u64 = 274877906944;
 
 // More than there are keys of states.
 const KEYS: u64 = 8388608;
+
+// A mark with a sum that no trial reaches: 2^64 - 1.
+const NO_MARK: u64 = 18446744073709551615;
 
 // The start whose trial gives the first limit: normalised samples are loud, and want large steps.
 const BOUND: u8 = 80;
@@ -49,7 +52,7 @@ fn key_of(state: State) -> u64
 
 // Internal: whether a trial with this key and sum stands where the marked one stood, with no sum that wins against it.
 fn meets(mark: u64, key: u64, tie: u64, sum: u64) -> bool
-    requires { ⌜ tie ≤ 2 ^ 38 ⌝ }
+    requires { ⌜ tie ≤ 1 ⌝ }
     ensures { λ r. ⌜ (r ≡ true → (key ≡ mark % 8388608) × (mark / 8388608 + tie ≤ sum)) ⌝ }
 {
     if key == mark % KEYS {
@@ -75,10 +78,10 @@ fn trial_sum(
     trace: &mut [u64; 63],
 ) -> u64
     requires { ⌜ (now steps ≡ tables.steps) × (count ≤ 63) × (count ≤ length (now xs)) × (take count (now targets) ≡ map (normalised volume) (take count (now xs))) ⌝ }
-    requires { ⌜ (tie ≤ 2 ^ 38) × (length (now trace) ≡ 63) × Rival settings volume (take count (now xs)) index count limit tie (now marks) ⌝ }
+    requires { ⌜ (tie ≤ 1) × (length (now trace) ≡ 63) × Rival settings volume (take count (now xs)) index count limit tie (now marks) ⌝ }
     ensures { λ r. ⌜ Bounded limit (trialTo settings volume (take count (now (xs .entry))) index count .sum) r ⌝ }
-    ensures { λ r. ⌜ (2 ^ 38 ≤ limit → 2 ^ 38 ≤ tie → r < limit) × (length (now (trace .exit)) ≡ 63) ⌝ }
-    ensures { λ r. ⌜ (r < limit → take count (now (trace .exit)) ≡ marksOf settings volume (take count (now (xs .entry))) index count) ⌝ }
+    ensures { λ r. ⌜ (2 ^ 38 ≤ limit → Unmarked count (now (marks .entry)) → r < limit) × (length (now (trace .exit)) ≡ 63) ⌝ }
+    ensures { λ r. ⌜ (r < limit → (r < 2 ^ 38) × (take count (now (trace .exit)) ≡ marksOf settings volume (take count (now (xs .entry))) index count)) ⌝ }
 {
     let mut state = State::fragment_start(index);
     let mut sum: u64 = 0;
@@ -109,6 +112,14 @@ fn tie(index: u8, best: u8) -> u64
     if index < best { 1 } else { 0 }
 }
 
+// Internal: the start that a turn tries: first the bound's, then all in ascending order, from turn 1 on.
+fn start_of(turn: u8) -> u8
+    requires { ⌜ turn < 90 ⌝ }
+    ensures { λ r. ⌜ (turn ≡ 0 → r ≡ 80) × (0 < turn → r + 1 ≡ turn) ⌝ }
+{
+    if 0 < turn { turn - 1 } else { BOUND }
+}
+
 // Internal: the best start. `targets` are the samples normalised.
 pub fn best_start(
     steps: &[i32; 89],
@@ -122,28 +133,15 @@ pub fn best_start(
     ensures { λ r. ⌜ r .index ≡ bestTrial settings volume (take count xs) .start ⌝ }
     ensures { λ r. ⌜ r .sum ≡ bestTrial settings volume (take count xs) .sum ⌝ }
 {
-    let mut marks = [0u64; 63];
+    let mut marks = [NO_MARK; 63];
     let mut trace = [0u64; 63];
-    let bound = trial_sum(
-        steps,
-        settings,
-        volume,
-        &xs,
-        &targets,
-        count,
-        BOUND,
-        NO_LIMIT,
-        NO_LIMIT,
-        &marks,
-        &mut trace,
-    );
     let mut best = Found {
         index: BOUND,
-        sum: bound,
+        sum: NO_LIMIT,
     };
-    marks = trace;
-    let mut index = 0u8;
-    while index < 89 {
+    let mut turn = 0u8;
+    while turn < 90 {
+        let index = start_of(turn);
         let tie = tie(index, best.index);
         let limit = best.sum + tie;
         let sum = trial_sum(
@@ -166,7 +164,7 @@ pub fn best_start(
             };
             marks = trace;
         }
-        index += 1;
+        turn += 1;
     }
     best
 }

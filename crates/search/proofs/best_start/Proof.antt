@@ -8,77 +8,68 @@ use lib.Seq.{length-take-le}
 use lib.ListN.{length, take}
 use borrow.Author.Needs.{needs}
 use borrow.Kind.Array.{good-length, eSInt}
-use Rattle.search.specs.Search.{marksOf}
-use Rattle.search.proofs.Leading.{Leading, leading-none, leading-new, leading-old, leading-all}
-use Rattle.search.proofs.Meeting.{no-rival, rival}
+use Rattle.search.proofs.Leading.{Ahead, ahead-none, ahead-rival, ahead-new, ahead-old, ahead-all, not-first, no-marks}
 use Rattle.search.proofs.best_start.Statement.{statement}
 use Rattle.search.proofs.best_start.Tie as tie
 
 abbrev Inv-loop : tie.InvT-loop
-Inv-loop steps settings volume count xs targets marks₀ trace₀ bound best₀ index₀ marks trace best index =
-    Leading settings volume (take count xs) count index best
-    × (take count marks ≡ marksOf settings volume (take count xs) (best .index) count)
-    × (length trace ≡ 63)
+Inv-loop steps settings volume count xs targets marks₀ trace₀ best₀ turn₀ marks trace best turn =
+    Ahead settings volume (take count xs) count turn best marks × (length trace ≡ 63)
 
 abbrev μ-loop : tie.MeasureT-loop
-μ-loop steps settings volume count xs targets marks₀ trace₀ bound best₀ index₀ marks trace best index = 89 - index
+μ-loop steps settings volume count xs targets marks₀ trace₀ best₀ turn₀ marks trace best turn = 90 - turn
 
 -- the samples are at least as many as are meant
 room : (c : tie.Start Inv-loop μ-loop) → c .args .count ≤ length (c .args .t4)
 room c = omega (arith, good-length (eSInt w16) 63 (c .args .t4) _ (c .good .1 .1 .1 .0), c .pre .1)
 
-trial-sum-requires : tie.Need-trial-sum-requires Inv-loop μ-loop
-trial-sum-requires c κs =
-    let s = c .before .before .before .before in
-    ((s .pre .0, s .pre .1, room s, s .pre .3), (omega arith, refl, no-rival _ _ _ _ _ _ _))
-
 loop-holds : tie.Need-loop-holds Inv-loop μ-loop
-loop-holds c =
-    let r = c .trial-sum .ensures in
-    let l = r .1 .0 .0 (omega arith) (omega arith) in
-    (leading-none _ _ _ _ (omega arith) (r .0 .same l) l, r .1 .1 l, r .1 .0 .1)
+loop-holds c = (ahead-none _ _ _ _ (no-marks (c .args .count) (c .pre .1)), refl)
+
+start-of-requires : tie.Need-start-of-requires Inv-loop μ-loop
+start-of-requires c κs = omega arith
 
 tie-requires : tie.Need-tie-requires Inv-loop μ-loop
 tie-requires c κs = search needs
 
 add-limit : tie.Need-add-limit Inv-loop μ-loop
-add-limit c = omega (arith, c .before .before .before .loop .inv .0 .small, c .before .tie .ensures .small)
+add-limit c = omega (arith, c .before .before .before .before .loop .inv .0 .small, c .before .tie .ensures .small)
 
-trial-sum-requires-2 : tie.Need-trial-sum-requires-2 Inv-loop μ-loop
-trial-sum-requires-2 c κs =
+trial-sum-requires : tie.Need-trial-sum-requires Inv-loop μ-loop
+trial-sum-requires c κs =
     let t = c .before .before .before .before .before in
-    let l = t .before .before .loop in
-    let s = t .before .before .before .before .before .before .before .before in (
+    let l = t .before .before .before .loop in
+    let s = t .before .before .before .before in (
       (s .pre .0, s .pre .1, room s, s .pre .3),
-      (omega (arith, t .tie .ensures .small), l .inv .2, rw (l .inv .0 .sum) (rival _ _ _ _ _ _ _ (l .inv .1) _)),
+      (t .tie .ensures .small, l .inv .1, ahead-rival _ _ _ _ (l .inv .0) _),
     )
 
-add-index : tie.Need-add-index Inv-loop μ-loop
-add-index c = omega arith
+add-turn : tie.Need-add-turn Inv-loop μ-loop
+add-turn c = omega arith
 
 loop-less : tie.Need-loop-less Inv-loop μ-loop
 loop-less c = omega arith
 
 loop-again : tie.Need-loop-again Inv-loop μ-loop
 loop-again c =
-    let r = c .before .trial-sum2 .ensures in
+    let r = c .before .trial-sum .ensures in
     let t = c .before .before .before .before .before .before .before in
-    let l = t .before .before .loop in
+    let n = t .before .start-of .ensures in
+    let l = t .before .before .before .loop in
+    let a = l .inv .0 in
     let e = t .tie .ensures in
-    let h : l .index < 89 = omega (arith, t .before .loop-test .taken) in
+    let h : l .turn < 90 = omega (arith, t .before .before .loop-test .taken) in
     ⊎-elim
-    (λ w. rw (w .1, w .2) (
-      leading-new _ _ _ _ (l .inv .0) h e (r .0 .same (w .0 .taken)) (w .0 .taken),
-      r .1 .1 (w .0 .taken),
-      r .1 .0 .1,
-    ))
-    (λ w. rw (w .1, w .2) (leading-old _ _ _ _ (l .inv .0) h e (r .0 .over (w .0 .left)), l .inv .1, r .1 .0 .1))
+    (λ w.
+    let m = r .1 .1 (w .0 .taken) in
+    rw (w .1, w .2) (ahead-new _ _ _ _ a h (n .0) (n .1) e (r .0 .same (w .0 .taken)) (w .0 .taken) (m .0) (m .1), r .1 .0 .1))
+    (λ w. rw (w .1, w .2) (ahead-old _ _ _ _ a h (n .0) (n .1) e (r .0 .over (w .0 .left)) (not-first _ _ _ _ a (r .1 .0 .0) (w .0 .left) (omega arith)), r .1 .0 .1))
     (c .if1 .came)
 
 returns : tie.Need-returns Inv-loop μ-loop
 returns c =
-    let s = c .before .before .before .before .before .before .before in
-    leading-all _ _ _ _ (length-take-le (s .args .count) (s .args .t4) (room s)) (c .before .loop .inv .0) (omega arith)
+    let s = c .before .before in
+    ahead-all _ _ _ _ (length-take-le (s .args .count) (s .args .t4) (room s)) (c .before .loop .inv .0) (omega arith)
 
 pub best-start-spec : {M : Type 1} → statement M
 best-start-spec =
@@ -86,12 +77,12 @@ best-start-spec =
     (tie.spec
     Inv-loop
     μ-loop
-    trial-sum-requires
     loop-holds
+    start-of-requires
     tie-requires
     add-limit
-    trial-sum-requires-2
-    add-index
+    trial-sum-requires
+    add-turn
     loop-less
     loop-again
     returns)

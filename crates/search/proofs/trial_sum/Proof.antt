@@ -57,9 +57,10 @@ returns-2 c =
     let t = c .before .before .before .before .before .before .loop .inv in
     let s = c .before .before .before .before .before .before .before .before in
     let l = c .before .before .before .before .before .before .loop in
+    let q : l .i < s .args .count = c .before .before .before .before .before .loop-test .taken in
     let o : getD (s .args .marks .now) (l .i) 0 / 8388608 + s .args .tie ≤ l .sum = omega (arith, m .1) in
-    let h = met _ _ _ _ _ (s .pre .1 .2) (t .summed) (omega arith) (c .before .before .before .key-of .ensures .0) (m .0) o in
-    (given-up _ _ _ _ _ h, (((λ a b. omega (arith, t .summed .small, m .1)), t .room), (λ l. absurd (omega arith))))
+    let h = met _ _ _ _ _ (s .pre .1 .2) (t .summed) q (c .before .before .before .key-of .ensures .0) (m .0) o in
+    (given-up _ _ _ _ _ h, (((λ a b. omega (arith, t .summed .small, m .1, b .high (l .i) q)), t .room), (λ l. absurd (omega arith))))
 
 mul-trace : tie.Need-mul-trace Inv-loop μ-loop
 mul-trace c = omega (arith, c .before .before .before .before .before .before .loop .inv .summed .small)
@@ -130,7 +131,7 @@ returns-3 c =
     let s = c .before .before .before in
     let e : c .before .loop .i ≡ s .args .count = omega (arith, t .summed .within) in (
       summed-all _ _ _ _ _ (t .summed) (omega arith),
-      (((λ a b. omega (arith, t .summed .small)), t .room), (λ l. rw e at (t .marked))),
+      (((λ a b. omega (arith, t .summed .small)), t .room), (λ l. (omega (arith, t .summed .small), rw e at (t .marked)))),
     )
 
 pub trial-sum-spec : {M : Type 1} → statement M
