@@ -1,6 +1,6 @@
 -- Signed numbers by sign and magnitude, the clamps, and 16-bit two's complement. `natAbs z` is the magnitude; `pos n` is n and
 -- `negsuc n` is −(n + 1). Cutting toward zero and rounding to nearest act on the magnitude and keep the sign. Assumes nothing.
-use Prim.Native.Nat.{ℕ, _-_, min}
+use Prim.Native.Nat.{ℕ, _+_, _-_, min}
 use mathlib.Core.Bool.{Bool, true, false, cond}
 use lib.Dec.{ltb}
 use lib.IntN.{ℤ, pos, negsuc, negℤ, natAbs}
@@ -27,6 +27,11 @@ clamp16 (negsuc n) = negsuc (min n 32767)
 unfoldable pub clampTo : ℕ → ℤ → ℕ
 clampTo top (pos n) = min n top
 clampTo top (negsuc n) = 0
+
+-- how far a 16-bit number lies below 32767
+unfoldable pub depth : ℤ → ℕ
+depth (pos n) = 32767 - n
+depth (negsuc n) = n + 32768
 
 -- ---- 16-bit two's complement
 

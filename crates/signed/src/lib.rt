@@ -1,10 +1,11 @@
 // Signed numbers by sign and magnitude, the clamps, and the two bytes of a 16-bit sample: the only place with signed
 // operators.
 ghost use mathlib.Core.Path.{_≡_};
-ghost use Prim.Native.Nat.{_+_, _*_, _<_, _^_};
+ghost use Prim.Native.Nat.{_+_, _*_, _<_, _≤_, _^_};
 ghost use lib.IntN.{pos, natAbs, _+ℤ_, _-ℤ_};
+ghost use lib.Signed.{mag};
 ghost use Rattle.digits.specs.Digits.{stored};
-ghost use Rattle.signed.specs.Signed.{isNeg, withSign, clamp16, clampTo, ofTwos, toTwos};
+ghost use Rattle.signed.specs.Signed.{isNeg, withSign, clamp16, clampTo, depth, ofTwos, toTwos};
 
 // The magnitude, also of the least number.
 pub fn magnitude(x: i32) -> u32
@@ -98,6 +99,22 @@ pub fn add_clamp_to(x: u32, y: i32, top: u32) -> u32
     ensures { λ r. ⌜ r ≡ clampTo top (pos x +ℤ y) ⌝ }
 {
     clamp_to(x as i32 + y, top)
+}
+
+// Internal: how far a 16-bit number lies below 32767.
+pub fn depth(x: i32) -> u32
+    requires { ⌜ mag x ≤ 32767 ⌝ }
+    ensures { λ r. ⌜ (r ≡ depth x) × (r ≤ 65535) ⌝ }
+{
+    (32767 - x) as u32
+}
+
+// Internal: the 16-bit number that lies so far below 32767.
+pub fn at_depth(depth: u32) -> i16
+    requires { ⌜ depth ≤ 65535 ⌝ }
+    ensures { λ r. ⌜ r ≡ pos 32767 -ℤ pos depth ⌝ }
+{
+    (32767 - (depth as i32)) as i16
 }
 
 // The sample that two bytes state, in two's complement.
