@@ -161,4 +161,5 @@ module _ {version : ℕ} {variant : Variant} {sizes nexts : List ℕ} (t : Looku
       rw (size, next, ← (sign-is (signBit variant) code (sign-some variant) h), moved-is (bitSet code (signBit variant)) (s .predictor) (sizeOf version variant (stepAt (s .index)) code) (r .predictor))
 
 pub kept-back : (variant : Variant) (s : State) → InRange s → stateOf variant (kept variant s) ≡ s
+unfolding stateOf
 kept-back variant s r = rw (depth-back (s .predictor) (r .predictor), mul-div-cancel (s .index) (sign-some variant))

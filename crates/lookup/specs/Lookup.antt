@@ -33,7 +33,7 @@ pub record Lookup (version : ℕ) (variant : Variant) (sizes nexts : List ℕ) :
 abbrev pub kept : Variant → State → Point
 kept variant s = record { depth = depth (s .predictor); at = s .index * signBit variant }
 
-abbrev pub stateOf : Variant → Point → State
+unfoldable pub stateOf : Variant → Point → State
 stateOf variant s = record { predictor = pos 32767 -ℤ pos (s .depth); index = s .at / signBit variant }
 
 -- a code without its sign, where w is the value of the bit that negates

@@ -96,7 +96,7 @@ fn place(entry: u16) -> usize
 // Internal: the state after a code.
 pub fn step(s: Point, code: u8, w: u8, sizes: &[u16], nexts: &[u16]) -> Point
     requires { ⌜ (s .depth ≤ 65535) × (code < w + w) × (s .at + w ≤ length (now sizes)) × (length (now nexts) ≡ length (now sizes)) ⌝ }
-    ensures { λ r. ⌜ r ≡ looked w (now (sizes .entry)) (now (nexts .entry)) s code ⌝ }
+    ensures { λ r. ⌜ (r ≡ looked w (now (sizes .entry)) (now (nexts .entry)) s code) × (r .depth ≤ 65535) ⌝ }
 {
     let k = s.at + unsigned(code, w);
     let depth = move_depth(s.depth, w <= code, number(sizes[k]));

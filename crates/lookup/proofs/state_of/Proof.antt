@@ -1,3 +1,4 @@
+use Rattle.lookup.specs.Lookup.{stateOf}
 use Rattle.signed.proofs.Laws.{back16}
 use native.Mathlib.Omega.{arith}
 use mir.Val.{toZ, ofZ}
@@ -26,6 +27,7 @@ index-of-requires c κs = search needs
 
 -- src/lib.rt:119:1
 returns : tie.Need-returns
+unfolding stateOf
 returns c = rw (toZ-ofZ (cast-predictor (c .before)), back16 (c .before .at-depth .result) (c .before .at-depth .ok), c .before .at-depth .ensures, c .index-of .ensures)
 
 pub state-of-spec : {M : Type 1} → statement M

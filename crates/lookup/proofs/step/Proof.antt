@@ -49,7 +49,7 @@ place-requires c κs = search needs
 -- src/lib.rt:99:1
 returns : tie.Need-returns
 unfolding looked
-returns c = rw (c .before .before .move-depth .ensures .0, c .place .ensures, c .before .before .before .number .ensures, c .before .before .before .before .before .before .unsigned .ensures .0)
+returns c = (rw (c .before .before .move-depth .ensures .0, c .place .ensures, c .before .before .before .number .ensures, c .before .before .before .before .before .before .unsigned .ensures .0), c .before .before .move-depth .ensures .1)
 
 pub step-spec : {M : Type 1} → statement M
 step-spec =
