@@ -7,19 +7,14 @@ use native.Mathlib.Numerals.{add-one}
 use native.Mathlib.Nat.{div-add-mod', mod-lt}
 use mathlib.Core.List.{List, _++_}
 use lib.Arith.{digits-div, digits-mod}
-use borrow.Author.Tests.{le-leb, eq-eqb}
-use mathlib.Core.Bool.{true}
-use lib.Dec.{leb, eqb}
-use lib.Seq.{take-at}
-use Rattle.outcome.proofs.Flags.{both-true}
 use lib.IntN.{ℤ, pos}
 use lib.ListN.{length, getD, take, drop, set}
 use Rattle.lists.proofs.ByIndex.{tabulate-ext}
-use Rattle.format.specs.Layout.{wholeFrame, frames, count, sizeIn, streamLength, fragmentAtPlace, fragmentAt}
-use Rattle.format.specs.Decode.{zeroState, InRange, decodedFragment, stateBefore, frameDecoded, channelSample, decoded, fragmentFits}
-use Rattle.format.proofs.Sizes.{frame-pos, count-whole, place-length}
+use Rattle.format.specs.Layout.{wholeFrame, frames, count, fragmentAtPlace, fragmentAt}
+use Rattle.format.specs.Decode.{zeroState, InRange, decodedFragment, stateBefore, frameDecoded, channelSample, decoded}
+use Rattle.format.proofs.Sizes.{frame-pos}
 use Rattle.decoder.specs.Loops.{spread, outAfter, statesAfter, placeDecoded, startStates, loopStates, loopSamples, loopOut}
-use Rattle.format.proofs.Range.{before-range, length-decoded}
+use Rattle.format.proofs.Range.{before-range}
 use Rattle.decoder.proofs.Interleave.{out-whole, spread-take, length-outAfter}
 use Rattle.decoder.proofs.Turns.{chain, turn-state}
 use Rattle.format.specs.declared.State.{State}
@@ -103,22 +98,3 @@ module _ (h : Header) (d : List ℕ) (o : List ℤ) where
             ∙ rw (es, k .out-is, k .states-are)));
         states-are = rw (add-one, et, k .states-are);
       }
-
--- ---- one place
-
-module _ (h : Header) (d : List ℕ) (p : ℕ) {fragment : List ℕ} (e : fragment ≡ fragmentAtPlace h d p) {n m : ℕ} (en : n ≡ count h (p / h .channels)) (em : m ≡ n) where
-  pub place-fits : length d ≡ streamLength h → p < frames h * h .channels → fragmentFits (h .version) (h .variant) fragment m ≡ true
-  unfolding fragmentFits
-  place-fits size l =
-      rw (em, en, e)
-      (both-true (eqb (length (fragmentAtPlace h d p)) (sizeIn h)) (leb (count h (p / h .channels)) (wholeFrame h))
-      (eq-eqb _ _ (place-length h d p size l)) (le-leb _ _ (count-whole h (p / h .channels))))
-
-  pub place-front : (s : State) (new rest : List ℤ) → new ≡ decodedFragment (h .version) (h .variant) s fragment m .samples
-      → take (count h (p / h .channels)) (new ++ rest) ≡ placeDecoded h d p s .samples
-  place-front s new rest en′ =
-      let k = rw (em, en, e) at en′ in
-      rw k (take-at (placeDecoded h d p s .samples) rest (count h (p / h .channels)) (length-decoded (h .version) (h .variant) s (fragmentAtPlace h d p) (count h (p / h .channels))))
-
-  pub place-state : (s next : State) → next ≡ decodedFragment (h .version) (h .variant) s fragment m .state → next ≡ placeDecoded h d p s .state
-  place-state s next en′ = rw (em, en, e) at en′

@@ -1,29 +1,27 @@
 -- The state that the tables give after a code is the state of the definitions. Assumes nothing.
-use mathlib.Core.Path.{_≡_, refl, sym, ap, _∙_}
-use mathlib.Core.Bool.{Bool, true, false, cond}
-use mathlib.Core.List.{List}
 use Prim.Native.Nat.{ℕ, zero, suc, _+_, _-_, _*_, _/_, _%_, _^_, _≤_, _<_, min}
 use native.Mathlib.Omega.{arith}
 use native.Mathlib.Nat.{div-eq-of-lt, mul-div-cancel}
 use native.Mathlib.Decide.{decLt}
-use borrow.Author.Tests.{le-leb, lt-leb}
+use mathlib.Core.Path.{_≡_, refl, ap, _∙_}
+use mathlib.Core.Bool.{Bool, true, false, cond}
+use mathlib.Core.List.{List}
 use lib.Arith.{digits-div}
 use lib.Bits.{bitXor, xor-add-and, xor-zero-r, and-mask}
 use lib.Dec.{leb, ltb, leb→le, nleb→lt, ltb→lt, nltb→le}
-use lib.IntN.{ℤ, pos, negsuc, negℤ, _+ℤ_}
-use lib.ListN.{length, getD}
+use lib.IntN.{ℤ, pos, negsuc, _+ℤ_}
 use lib.Signed.{mag}
+use borrow.Author.Tests.{le-leb, lt-leb}
 use Rattle.signed.specs.Signed.{withSign, clamp16, clampTo, depth}
 use Rattle.signed.proofs.Laws.{cond-ind, depth-back}
 use Rattle.format.specs.Tables.{hIndexAdjust}
 use Rattle.format.specs.Layout.{bits}
-use Rattle.format.specs.Step.{stepAt, bitSet, part, hSize, levelOf, sizeOf, signBit, difference, adjustment, unclampedPredictor, unclampedIndex, stepped}
+use Rattle.format.specs.Step.{stepAt, bitSet, hSize, levelOf, sizeOf, signBit, difference, adjustment, unclampedPredictor, unclampedIndex, stepped}
 use Rattle.format.specs.Decode.{InRange}
 use Rattle.format.specs.declared.Variant.{Variant}
 use Rattle.format.specs.declared.Variant.the-variants.{H, L, LPlus}
 use Rattle.format.specs.declared.State.{State}
-use Rattle.lookup.specs.declared.Point.{Point}
-use Rattle.lookup.specs.Lookup.{Rows, Lookup, sizeRule, nextRule, kept, stateOf, unsigned, moved, entryAt, looked}
+use Rattle.lookup.specs.Lookup.{Lookup, kept, stateOf, unsigned, moved, entryAt, looked}
 
 -- ---- a depth after a difference
 

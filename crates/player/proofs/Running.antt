@@ -1,11 +1,11 @@
 -- A run of codes by the tables, and the samples of a fragment from its predictors. Assumes nothing.
-use mathlib.Core.Path.{_≡_, refl, sym, ap, _∙_}
-use mathlib.Core.Bool.{cond}
-use mathlib.Core.List.{List}
-use Prim.Native.Nat.{ℕ, zero, suc, _+_, _-_, _*_, _^_, _≤_, _<_}
+use Prim.Native.Nat.{ℕ, suc, _+_, _-_, _*_, _^_, _≤_, _<_}
 use native.Mathlib.Nat.{mul-le-mul-right}
 use native.Mathlib.Numerals.{add-one}
 use native.Mathlib.Omega.{arith}
+use mathlib.Core.Path.{_≡_, refl, sym, ap, _∙_}
+use mathlib.Core.Bool.{cond}
+use mathlib.Core.List.{List}
 use lib.IntN.{ℤ, pos, _-ℤ_}
 use lib.ListN.{length, getD, set, take, length-set}
 use lib.Seq.{getD-take, take-all}
@@ -13,9 +13,9 @@ use Rattle.lists.specs.Lists.{tabulate}
 use Rattle.lists.proofs.ByIndex.{fill-next, getD-tabulate, take-tabulate, tabulate-ext}
 use Rattle.signed.proofs.Laws.{cond-ind, depth-le, depth-back}
 use Rattle.format.specs.Layout.{anew, bits, frameSamples, volumeByte, indexByte}
-use Rattle.format.specs.Step.{signBit, stepped}
+use Rattle.format.specs.Step.{signBit}
 use Rattle.format.specs.Gain.{outputGain}
-use Rattle.format.specs.Decode.{fragmentStart, startState, codesOf, after, decodedFragment, InRange}
+use Rattle.format.specs.Decode.{fragmentStart, startState, after, decodedFragment, InRange}
 use Rattle.format.specs.declared.Variant.{Variant}
 use Rattle.format.specs.declared.State.{State}
 use Rattle.format.proofs.Range.{start-range, after-range, stepped-range}

@@ -1,23 +1,23 @@
 -- `decoder::put_samples` meets its contract. Assumes nothing.
-use mathlib.Core.Path.{_≡_, ap, _∙_}
 use Prim.Native.Nat.{_-_, _≤_}
 use native.Mathlib.Omega.{arith}
 use native.Mathlib.Numerals.{add-one}
-use borrow.Author.Needs.{needs}
+use mathlib.Core.Path.{_≡_, ap, _∙_}
 use lib.IntN.{pos}
 use lib.ListN.{length}
+use borrow.Author.Needs.{needs}
 use Rattle.signed.proofs.Laws.{back16}
+use Rattle.inspect.proofs.Places.{Place, place-in}
 use Rattle.decoder.specs.Loops.{spread}
 use Rattle.decoder.proofs.Interleave.{length-spread}
-use Rattle.inspect.proofs.Places.{Place, place-in}
 use Rattle.decoder.proofs.put_samples.Statement.{statement}
 use Rattle.decoder.proofs.put_samples.Tie as tie
 
 abbrev Inv-loop : tie.InvT-loop
-Inv-loop out₀ first channels channel n samples w₀ out w = (w ≤ n) × (out ≡ spread (pos 0) out₀ samples first channels channel w)
+Inv-loop out₀ samples first channels channel n w₀ out w = (w ≤ n) × (out ≡ spread (pos 0) out₀ samples first channels channel w)
 
 abbrev μ-loop : tie.MeasureT-loop
-μ-loop out₀ first channels channel n samples w₀ out w = n - w
+μ-loop out₀ samples first channels channel n w₀ out w = n - w
 
 -- the place that a turn writes
 spot : (c : tie.In-loop Inv-loop μ-loop) → Place (c .before .before .args .first) (c .before .loop .w) (c .before .before .args .channels) (c .before .before .args .channel) (length (c .before .before .args .out .now))
@@ -30,8 +30,8 @@ loop-holds c = search needs
 mul-x : tie.Need-mul-x Inv-loop μ-loop
 mul-x c = search needs
 
-array-copy-out-x : tie.Need-array-copy-out-x Inv-loop μ-loop
-array-copy-out-x c = search needs
+element-copy-out-x : tie.Need-element-copy-out-x Inv-loop μ-loop
+element-copy-out-x c = search needs
 
 add-j : tie.Need-add-j Inv-loop μ-loop
 add-j c = let p = spot (c .before) in search needs
@@ -78,7 +78,7 @@ put-samples-spec =
     μ-loop
     loop-holds
     mul-x
-    array-copy-out-x
+    element-copy-out-x
     add-j
     mul-j
     add-j-2

@@ -1,30 +1,23 @@
+-- `lookup::index_of` meets its contract. Assumes nothing.
 use borrow.Author.Needs.{needs}
 use Rattle.lookup.proofs.index_of.Statement.{statement}
 use Rattle.lookup.proofs.index_of.Tie as tie
-use Rattle.lookup.proofs.index_of.Reads as reads
-use Rattle.lookup.proofs.index_of.Lts as lts
 
--- src/lib.rt:112:23
 enum-told : tie.Need-enum-told
 enum-told c = search needs
 
--- src/lib.rt:113:23
 enum-told-2 : tie.Need-enum-told-2
 enum-told-2 c = search needs
 
--- src/lib.rt:114:27
 enum-told-3 : tie.Need-enum-told-3
 enum-told-3 c = search needs
 
--- src/lib.rt:108:1
 returns : tie.Need-returns
 returns c = rw (c .enum-told .given .1)
 
--- src/lib.rt:108:1
 returns-2 : tie.Need-returns-2
 returns-2 c = rw (c .enum-told2 .given .1)
 
--- src/lib.rt:108:1
 returns-3 : tie.Need-returns-3
 returns-3 c = rw (c .enum-told3 .given .1)
 

@@ -1,31 +1,23 @@
-use Rattle.signed.proofs.Laws.{product-le, read16}
-use Rattle.lookup.proofs.Steps.{sign-few}
+-- `lookup::keep` meets its contract. Assumes nothing.
 use native.Mathlib.Omega.{arith}
 use borrow.Author.Needs.{needs}
+use Rattle.signed.proofs.Laws.{product-le, read16}
+use Rattle.lookup.proofs.Steps.{sign-few}
 use Rattle.lookup.proofs.keep.Statement.{statement}
 use Rattle.lookup.proofs.keep.Tie as tie
-use Rattle.lookup.proofs.keep.Reads as reads
-use Rattle.lookup.proofs.keep.Lts as lts
-use Rattle.lookup.proofs.row_size.Reads as row-size-reads
-use Rattle.signed.proofs.depth.Reads as depth-reads
 
--- src/lib.rt:40:9
 row-size-requires : tie.Need-row-size-requires
 row-size-requires c κs = search needs
 
--- src/lib.rt:42:16
 depth-requires : tie.Need-depth-requires
 depth-requires c κs = search needs
 
--- src/lib.rt:43:22
 cast-t7 : tie.Need-cast-t7
 cast-t7 c = search needs
 
--- src/lib.rt:43:13
 mul-t8 : tie.Need-mul-t8
 mul-t8 c = omega (arith, product-le 88 8 {a = c .before .before .before .args .state .index} {b = c .before .row-size .result} (c .before .before .before .pre .index) (omega (arith, sign-few (c .before .before .before .args .variant), c .before .row-size .ensures)))
 
--- src/lib.rt:34:1
 returns : tie.Need-returns
 returns c = rw (c .depth .ensures .0, read16 (c .before .before .before .args .state .predictor) (c .before .before .before .pre .predictor), c .before .row-size .ensures)
 

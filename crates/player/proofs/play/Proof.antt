@@ -1,19 +1,12 @@
-use Rattle.player.proofs.Running.{start-in-range, few, played-samples, played-state}
-use Rattle.fragment.proofs.Fragments.{firstCodes, codes-first, codes-small}
-use Rattle.format.proofs.Sizes.{payload-few}
+-- `player::play` meets its contract. Assumes nothing.
 use native.Mathlib.Omega.{arith}
 use mathlib.Core.Path.{_≡_, refl}
 use borrow.Author.Needs.{needs}
+use Rattle.fragment.proofs.Fragments.{firstCodes, codes-first, codes-small}
+use Rattle.format.proofs.Sizes.{payload-few}
+use Rattle.player.proofs.Running.{start-in-range, few, played-samples, played-state}
 use Rattle.player.proofs.play.Statement.{statement}
 use Rattle.player.proofs.play.Tie as tie
-use Rattle.player.proofs.play.Reads as reads
-use Rattle.player.proofs.play.Lts as lts
-use Rattle.inspect.proofs.prefix_size.Reads as prefix-size-reads
-use Rattle.player.proofs.apply_volume.Reads as apply-volume-reads
-use Rattle.player.proofs.run.Reads as run-reads
-use Rattle.player.proofs.state_after.Reads as state-after-reads
-use Rattle.player.proofs.state_before.Reads as state-before-reads
-use Rattle.player.proofs.unpack.Reads as unpack-reads
 
 -- the codes of the fragment
 codes-are : (c : tie.After-unpack) → let a = c .before .before .before .before .before .before .before .before .args in
@@ -22,31 +15,24 @@ codes-are c =
     let a = c .before .before .before .before .before .before .before .before .args in
     codes-first (a .version) (a .variant) (a .fragment .now) (c .unpack .ensures) refl (c .before .before .before .before .prefix-size .ensures .0)
 
--- src/lib.rt:148:9
 prefix-size-requires : tie.Need-prefix-size-requires
 prefix-size-requires c κs = search needs
 
--- src/lib.rt:149:9
 state-before-requires : tie.Need-state-before-requires
 state-before-requires c κs = omega (arith, payload-few (c .before .before .before .before .args .variant))
 
--- src/lib.rt:151:21
 sub-unpack : tie.Need-sub-unpack
 sub-unpack c = search needs
 
--- src/lib.rt:151:21
 part-unpack-start : tie.Need-part-unpack-start
 part-unpack-start c = search needs
 
--- src/lib.rt:151:21
 part-unpack-end : tie.Need-part-unpack-end
 part-unpack-end c = search needs
 
--- src/lib.rt:151:5
 unpack-requires : tie.Need-unpack-requires
 unpack-requires c κs = search needs
 
--- src/lib.rt:153:9
 run-requires : tie.Need-run-requires
 run-requires c κs =
     let a = c .before .before .before .before .before .before .before .before .before .before .args in
@@ -59,19 +45,15 @@ run-requires c κs =
       refl,
     )
 
--- src/lib.rt:163:40
 shared-slice-read-apply-volume : tie.Need-shared-slice-read-apply-volume
 shared-slice-read-apply-volume c = search needs
 
--- src/lib.rt:163:5
 apply-volume-requires : tie.Need-apply-volume-requires
 apply-volume-requires c κs = search needs
 
--- src/lib.rt:164:5
 state-after-requires : tie.Need-state-after-requires
 state-after-requires c κs = search needs
 
--- src/lib.rt:133:1
 returns : tie.Need-returns
 returns c =
     let a = c .before .before .before .before .before .before .before .before .before .before .before .before .before .before .before .before .args in

@@ -1,21 +1,15 @@
+-- `player::run` meets its contract. Assumes nothing.
+use Prim.Native.Nat.{_-_, _≤_}
+use native.Mathlib.Omega.{arith}
 use mathlib.Core.Path.{_≡_, ap, _∙_}
+use borrow.Author.Needs.{needs}
 use Rattle.lookup.proofs.Steps.{code-fits, kept-back}
 use Rattle.format.specs.Decode.{InRange}
 use Rattle.signed.proofs.Laws.{back16}
-use Rattle.player.proofs.Running.{Ran, ran-none, ran-ready, ran-more, ran-all}
 use Rattle.lookup.specs.Lookup.{stateOf}
-use borrow.Author.Needs.{needs}
-use native.Mathlib.Omega.{arith}
-use Prim.Native.Nat.{_-_, _≤_}
+use Rattle.player.proofs.Running.{Ran, ran-none, ran-ready, ran-more, ran-all}
 use Rattle.player.proofs.run.Statement.{statement}
 use Rattle.player.proofs.run.Tie as tie
-use Rattle.player.proofs.run.Reads as reads
-use Rattle.player.proofs.run.Lts as lts
-use Rattle.lookup.proofs.keep.Reads as keep-reads
-use Rattle.lookup.proofs.row_size.Reads as row-size-reads
-use Rattle.lookup.proofs.state_of.Reads as state-of-reads
-use Rattle.lookup.proofs.step.Reads as step-reads
-use Rattle.signed.proofs.at_depth.Reads as at-depth-reads
 
 abbrev Inv-loop : tie.InvT-loop
 Inv-loop version variant sizes nexts codes n predictors₀ w s₀ i₀ predictors s i = (i ≤ n) × InRange (stateOf variant s₀) × Ran version variant codes (stateOf variant s₀) i predictors s
@@ -23,52 +17,41 @@ Inv-loop version variant sizes nexts codes n predictors₀ w s₀ i₀ predictor
 abbrev μ-loop : tie.MeasureT-loop
 μ-loop version variant sizes nexts codes n predictors₀ w s₀ i₀ predictors s i = n - i
 
--- src/lib.rt:86:9
 row-size-requires : tie.Need-row-size-requires Inv-loop μ-loop
 row-size-requires c κs = search needs
 
--- src/lib.rt:87:9
 keep-requires : tie.Need-keep-requires Inv-loop μ-loop
 keep-requires c κs = search needs
 
--- src/lib.rt:89:5
 loop-holds : tie.Need-loop-holds Inv-loop μ-loop
 loop-holds c =
     let s = c .before .before .before .before .pre in
     let e : stateOf (c .before .before .before .before .args .variant) (c .keep .result) ≡ c .before .before .before .before .args .state = ap (stateOf (c .before .before .before .before .args .variant)) (c .keep .ensures) ∙ kept-back (c .before .before .before .before .args .variant) (c .before .before .before .before .args .state) (s .1) in
     (omega arith, rw e (s .1), ran-none _ _ _ _ (s .4) (rw e (c .keep .ensures)))
 
--- src/lib.rt:90:29
 element-copy-out-step : tie.Need-element-copy-out-step Inv-loop μ-loop
 element-copy-out-step c = omega arith
 
--- src/lib.rt:90:9
 step-requires : tie.Need-step-requires Inv-loop μ-loop
 step-requires c κs =
     let r = ran-ready _ _ _ _ (c .before .before .before .before .before .before .before .pre .0) (c .before .before .loop .inv .1) (c .before .before .loop .inv .2) in
     (r .depth, rw (c .before .before .before .before .row-size .ensures) (code-fits (c .before .before .before .before .before .before .before .args .variant) _ (c .before .before .before .before .before .before .before .pre .2 (c .before .before .loop .i))), rw (c .before .before .before .before .row-size .ensures) (r .row), r .same)
 
--- src/lib.rt:92:25
 at-depth-requires : tie.Need-at-depth-requires Inv-loop μ-loop
 at-depth-requires c κs = c .step .ensures .1
 
--- src/lib.rt:92:9
 mul-t18 : tie.Need-mul-t18 Inv-loop μ-loop
 mul-t18 c = omega arith
 
--- src/lib.rt:92:9
 element-set-from-predictors : tie.Need-element-set-from-predictors Inv-loop μ-loop
 element-set-from-predictors c = omega arith
 
--- src/lib.rt:93:9
 add-i : tie.Need-add-i Inv-loop μ-loop
 add-i c = omega arith
 
--- src/lib.rt:89:5
 loop-less : tie.Need-loop-less Inv-loop μ-loop
 loop-less c = omega arith
 
--- src/lib.rt:89:5
 loop-again : tie.Need-loop-again Inv-loop μ-loop
 loop-again c = (
   omega arith,
@@ -77,11 +60,9 @@ loop-again c = (
       (back16 (c .at-depth .result) (c .at-depth .ok) ∙ c .at-depth .ensures),
 )
 
--- src/lib.rt:95:5
 state-of-requires : tie.Need-state-of-requires Inv-loop μ-loop
 state-of-requires c κs = ran-ready _ _ _ _ (c .before .before .before .before .before .before .pre .0) (c .before .loop .inv .1) (c .before .loop .inv .2) .depth
 
--- src/lib.rt:71:1
 returns : tie.Need-returns Inv-loop μ-loop
 returns c =
     let done : c .before .before .loop .i ≡ c .before .before .before .before .before .before .before .args .n = omega arith in

@@ -1,14 +1,11 @@
+-- `player::state_after` meets its contract. Assumes nothing.
 use borrow.Author.Tests.{le-leb, lt-leb}
 use Rattle.player.proofs.state_after.Statement.{statement}
 use Rattle.player.proofs.state_after.Tie as tie
-use Rattle.player.proofs.state_after.Reads as reads
-use Rattle.player.proofs.state_after.Lts as lts
 
--- src/lib.rt:127:9
 returns : tie.Need-returns
 returns c = rw (le-leb 3 (c .before .args .version) (c .if1 .taken))
 
--- src/lib.rt:123:1
 returns-2 : tie.Need-returns-2
 returns-2 c = rw (lt-leb 3 (c .before .args .version) (c .if1 .left))
 

@@ -1,14 +1,12 @@
+-- `player::unpack_fours` meets its contract. Assumes nothing.
+use Prim.Native.Nat.{_-_, _*_, _+_, _≤_}
+use native.Mathlib.Omega.{arith}
+use mathlib.Core.Path.{_≡_}
+use lib.ListN.{length}
 use Rattle.digits.proofs.Laws.{Small}
 use Rattle.player.proofs.Unpacking.{Unpacked, unpacked-none, unpacked-more, unpacked-all, low-code, high-code}
-use lib.ListN.{length}
-use borrow.Author.Needs.{needs}
-use native.Mathlib.Omega.{arith}
-use mathlib.Core.Path.{_≡_, ap, _∙_}
-use Prim.Native.Nat.{_-_, _*_, _+_, _≤_}
 use Rattle.player.proofs.unpack_fours.Statement.{statement}
 use Rattle.player.proofs.unpack_fours.Tie as tie
-use Rattle.player.proofs.unpack_fours.Reads as reads
-use Rattle.player.proofs.unpack_fours.Lts as lts
 
 abbrev Inv-loop : tie.InvT-loop
 Inv-loop payload codes₀ i₀ codes i = (i ≤ 32) × (length payload ≡ 32) × Unpacked 4 payload (2 * i) codes
@@ -16,43 +14,33 @@ Inv-loop payload codes₀ i₀ codes i = (i ≤ 32) × (length payload ≡ 32) �
 abbrev μ-loop : tie.MeasureT-loop
 μ-loop payload codes₀ i₀ codes i = 32 - i
 
--- src/lib.rt:24:5
 loop-holds : tie.Need-loop-holds Inv-loop μ-loop
 loop-holds c = (omega arith, c .pre .0, unpacked-none 4 _ (c .pre .1))
 
--- src/lib.rt:25:17
 shared-slice-read-b : tie.Need-shared-slice-read-b Inv-loop μ-loop
 shared-slice-read-b c = omega arith
 
--- src/lib.rt:26:15
 mul-codes : tie.Need-mul-codes Inv-loop μ-loop
 mul-codes c = omega arith
 
--- src/lib.rt:26:9
 element-write-codes : tie.Need-element-write-codes Inv-loop μ-loop
 element-write-codes c = omega arith
 
--- src/lib.rt:27:15
 mul-codes-2 : tie.Need-mul-codes-2 Inv-loop μ-loop
 mul-codes-2 c = omega arith
 
--- src/lib.rt:27:15
 add-codes : tie.Need-add-codes Inv-loop μ-loop
 add-codes c = omega arith
 
--- src/lib.rt:27:9
 element-write-codes-2 : tie.Need-element-write-codes-2 Inv-loop μ-loop
 element-write-codes-2 c = omega arith
 
--- src/lib.rt:28:9
 add-i : tie.Need-add-i Inv-loop μ-loop
 add-i c = omega arith
 
--- src/lib.rt:24:5
 loop-less : tie.Need-loop-less Inv-loop μ-loop
 loop-less c = omega arith
 
--- src/lib.rt:24:5
 loop-again : tie.Need-loop-again Inv-loop μ-loop
 loop-again c =
     let p = c .before .before .before .args .payload .now in
@@ -61,7 +49,6 @@ loop-again c =
     let e : 2 * (i + 1) ≡ 2 * i + 1 + 1 = omega arith in
     (omega arith, c .before .before .loop .inv .1, rw e (unpacked-more 4 p (unpacked-more 4 p (c .before .before .loop .inv .2) (omega arith) (low-code p small i)) (omega arith) (high-code p small i)))
 
--- src/lib.rt:19:1
 returns : tie.Need-returns Inv-loop μ-loop
 returns c = unpacked-all 4 _ (c .before .loop .inv .2) (omega arith)
 

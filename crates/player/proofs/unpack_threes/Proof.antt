@@ -1,15 +1,12 @@
-use Rattle.player.proofs.Unpacking.{Unpacked, unpacked-none, unpacked-more, unpacked-all, Left, left-none, left-more, left-code}
-use Rattle.digits.proofs.Laws.{Small}
-use lib.ListN.{length}
-use borrow.Author.Needs.{needs}
+-- `player::unpack_threes` meets its contract. Assumes nothing.
+use Prim.Native.Nat.{_-_, _*_, _+_, _≤_, _<_}
 use native.Mathlib.Omega.{arith}
 use mathlib.Core.Path.{_≡_}
-use Prim.Native.Nat.{_-_, _*_, _+_, _≤_, _<_}
+use lib.ListN.{length}
+use Rattle.digits.proofs.Laws.{Small}
+use Rattle.player.proofs.Unpacking.{Unpacked, unpacked-none, unpacked-more, unpacked-all, Left, left-none, left-more, left-code}
 use Rattle.player.proofs.unpack_threes.Statement.{statement}
 use Rattle.player.proofs.unpack_threes.Tie as tie
-use Rattle.player.proofs.unpack_threes.Reads as reads
-use Rattle.player.proofs.unpack_threes.Lts as lts
-use Rattle.player.proofs.word.Reads as word-reads
 
 abbrev Inv-loop2 : tie.InvT-loop2
 Inv-loop2 payload codes₀ i w₀ j₀ codes w j = (j ≤ 8) × (i < 8) × Left payload i j w × Unpacked 3 payload (8 * i + j) codes
@@ -23,49 +20,38 @@ Inv-loop payload codes₀ i₀ codes i = (i ≤ 8) × (length payload ≡ 24) ×
 abbrev μ-loop : tie.MeasureT-loop
 μ-loop payload codes₀ i₀ codes i = 8 - i
 
--- src/lib.rt:46:5
 loop-holds : tie.Need-loop-holds Inv-loop2 μ-loop2 Inv-loop μ-loop
 loop-holds c = (omega arith, c .before .pre .0, unpacked-none 3 _ (c .before .pre .1))
 
--- src/lib.rt:47:35
 mul-word : tie.Need-mul-word Inv-loop2 μ-loop2 Inv-loop μ-loop
 mul-word c = omega arith
 
--- src/lib.rt:47:13
 word-requires : tie.Need-word-requires Inv-loop2 μ-loop2 Inv-loop μ-loop
 word-requires c κs = omega arith
 
--- src/lib.rt:49:9
 loop2-holds : tie.Need-loop2-holds Inv-loop2 μ-loop2 Inv-loop μ-loop
 loop2-holds c =
     let e : 8 * c .before .before .loop .i + 0 ≡ 8 * c .before .before .loop .i = omega arith in
     (omega arith, omega arith, left-none _ _ (c .word .ensures), rw e (c .before .before .loop .inv .2))
 
--- src/lib.rt:50:32
 cast-codes : tie.Need-cast-codes Inv-loop2 μ-loop2 Inv-loop μ-loop
 cast-codes c = omega arith
 
--- src/lib.rt:50:19
 mul-codes : tie.Need-mul-codes Inv-loop2 μ-loop2 Inv-loop μ-loop
 mul-codes c = omega arith
 
--- src/lib.rt:50:19
 add-codes : tie.Need-add-codes Inv-loop2 μ-loop2 Inv-loop μ-loop
 add-codes c = omega arith
 
--- src/lib.rt:50:13
 element-write-codes : tie.Need-element-write-codes Inv-loop2 μ-loop2 Inv-loop μ-loop
 element-write-codes c = omega arith
 
--- src/lib.rt:52:13
 add-j : tie.Need-add-j Inv-loop2 μ-loop2 Inv-loop μ-loop
 add-j c = omega arith
 
--- src/lib.rt:49:9
 loop2-less : tie.Need-loop2-less Inv-loop2 μ-loop2 Inv-loop μ-loop
 loop2-less c = omega arith
 
--- src/lib.rt:49:9
 loop2-again : tie.Need-loop2-again Inv-loop2 μ-loop2 Inv-loop μ-loop
 loop2-again c =
     let p = c .before .before .before .before .before .before .args .payload .now in
@@ -75,21 +61,17 @@ loop2-again c =
     let left = c .before .loop2 .inv .2 in
     (omega arith, c .before .loop2 .inv .1, left-more p g left, rw e (unpacked-more 3 p (c .before .loop2 .inv .3) (omega arith) (left-code p g small (omega arith) left)))
 
--- src/lib.rt:54:9
 add-i : tie.Need-add-i Inv-loop2 μ-loop2 Inv-loop μ-loop
 add-i c = omega arith
 
--- src/lib.rt:46:5
 loop-less : tie.Need-loop-less Inv-loop2 μ-loop2 Inv-loop μ-loop
 loop-less c = omega arith
 
--- src/lib.rt:46:5
 loop-again : tie.Need-loop-again Inv-loop2 μ-loop2 Inv-loop μ-loop
 loop-again c =
     let e : 8 * c .before .before .before .before .loop .i + c .before .loop2 .j ≡ 8 * (c .before .before .before .before .loop .i + 1) = omega arith in
     (omega arith, c .before .before .before .before .loop .inv .1, rw e at (c .before .loop2 .inv .3))
 
--- src/lib.rt:41:1
 returns : tie.Need-returns Inv-loop2 μ-loop2 Inv-loop μ-loop
 returns c = unpacked-all 3 _ (c .before .loop .inv .2) (omega arith)
 
