@@ -28,55 +28,67 @@ use Rattle.player.specs.Play.{predictorAt}
 
 -- ---- the loop over the codes
 
-module _ (version : ℕ) (variant : Variant) (codes : List ℕ) (t : State) where
+module _ (version : ℕ) (variant : Variant) (codes : List ℕ) where
   -- i codes are run from the state t: their predictors are at the front, and s is the state after them
-  pub record Ran (i : ℕ) (predictors : List ℤ) (s : Point) : Type 0 where
+  pub record Ran (t : State) (i : ℕ) (predictors : List ℤ) (s : Point) : Type 0 where
+    pub range : InRange t
     pub long : length predictors ≡ 64
     pub done : take i predictors ≡ tabulate (predictorAt version variant codes t) i
     pub point : s ≡ kept variant (after version variant codes t i)
 
-  pub ran-none : {predictors : List ℤ} {s : Point} → length predictors ≡ 64 → s ≡ kept variant t → Ran 0 predictors s
-  unfolding after tabulate
-  ran-none l e = record { long = l; done = refl; point = e }
+  -- the run starts at a state that is kept as s₀, so that this is the state of s₀
+  module _ (state : State) (s₀ : Point) (range : InRange state) (e : s₀ ≡ kept variant state) where
+    same-state : stateOf variant s₀ ≡ state
+    same-state = ap (stateOf variant) e ∙ kept-back variant state range
 
-  module _ {sizes nexts : List ℕ} (table : Lookup version variant sizes nexts) (range : InRange t) where
-    -- what a turn needs of its point
-    pub record Ready (s : Point) : Type 0 where
-      pub depth : s .depth ≤ 65535
-      pub row : s .at + signBit variant ≤ length sizes
-      pub same : length nexts ≡ length sizes
+    pub ran-none : {predictors : List ℤ} → length predictors ≡ 64 → Ran (stateOf variant s₀) 0 predictors s₀
+    unfolding after tabulate
+    ran-none l = record { range = rw same-state range; long = l; done = refl; point = rw same-state e }
 
-    pub ran-ready : {i : ℕ} {predictors : List ℤ} {s : Point} → Ran i predictors s → Ready s
-    ran-ready {i} {predictors} {s} r =
-        let u = after version variant codes t i in
-        let q = after-range version variant codes t i range in
-        record {
-          depth = rw (r .point) (depth-le (u .predictor) (q .predictor));
-          row = rw (r .point, table .size .long) (row-in (u .index) (signBit variant) (q .index));
-          same = table .next .long ∙ sym (table .size .long);
-        }
-      where
-        row-in : (i w : ℕ) → i ≤ 88 → i * w + w ≤ 89 * w
-        row-in i w h = let k : suc i ≤ 89 = omega arith in omega (arith, mul-le-mul-right w k)
+    pub ran-all : (n : ℕ) {i : ℕ} {predictors : List ℤ} {s : Point} {r : State} → Ran (stateOf variant s₀) i predictors s → i ≡ n → r ≡ stateOf variant s
+        → (r ≡ after version variant codes state n) × (take n predictors ≡ tabulate (predictorAt version variant codes state) n)
+    ran-all n {i} {predictors} {s} {r} k ei er =
+        let t = stateOf variant s₀ in
+        let end : stateOf variant (kept variant (after version variant codes t n)) ≡ after version variant codes t n =
+        kept-back variant (after version variant codes t n) (after-range version variant codes t n (k .range)) in
+        let last : r ≡ after version variant codes t n = er ∙ rw (k .point, ei) end in
+        let front : take n predictors ≡ tabulate (predictorAt version variant codes t) n = rw ei at (k .done) in
+        (rw same-state at last, rw same-state at front)
 
-    pub ran-more : {i : ℕ} {predictors : List ℤ} {s r : Point} {x : ℤ} → Ran i predictors s → i < 64 → getD codes i 0 < 2 ^ bits variant
-        → r ≡ looked (signBit variant) sizes nexts s (getD codes i 0) → x ≡ pos 32767 -ℤ pos (r .depth) → Ran (i + 1) (set predictors i x) r
+  pub ran-depth : {t : State} {i : ℕ} {predictors : List ℤ} {s : Point} → Ran t i predictors s → s .depth ≤ 65535
+  ran-depth {t} {i} k = rw (k .point) (depth-le _ (after-range version variant codes t i (k .range) .predictor))
+
+  module _ {sizes nexts : List ℕ} (table : Lookup version variant sizes nexts) {t : State} {i : ℕ} {predictors : List ℤ} {s : Point}
+      (k : Ran t i predictors s) (l : i < 64) (small : getD codes i 0 < 2 ^ bits variant) where
+    row-in : (i w : ℕ) → i ≤ 88 → i * w + w ≤ 89 * w
+    row-in i w h = let m : suc i ≤ 89 = omega arith in omega (arith, mul-le-mul-right w m)
+
+    -- what a turn needs
+    pub ran-needs : {w : ℕ} → w ≡ signBit variant
+        → (s .depth ≤ 65535) × (getD codes i 0 < w + w) × (s .at + w ≤ length sizes) × (length nexts ≡ length sizes) × (i < 64)
+    ran-needs e = (
+      ran-depth k,
+      rw e (code-fits variant _ small),
+      rw (e, k .point, table .size .long) (row-in _ (signBit variant) (after-range version variant codes t i (k .range) .index)),
+      table .next .long ∙ sym (table .size .long),
+      l,
+    )
+
+    pub ran-more : {w : ℕ} {r : Point} {ps : List ℤ} → w ≡ signBit variant → r ≡ looked w sizes nexts s (getD codes i 0)
+        → ps ≡ set predictors i (pos 32767 -ℤ pos (r .depth)) → Ran t (i + 1) ps r
     unfolding after
-    ran-more {i} {predictors} {s} {r} {x} k l c er ex =
+    ran-more {w} {r} {ps} ew er ep =
         let u = after version variant codes t i in
         let next : r ≡ kept variant (after version variant codes t (suc i)) =
-        er ∙ rw (k .point) (looked-is table u (getD codes i 0) (after-range version variant codes t i range) (code-fits variant (getD codes i 0) c)) in
+        er ∙ rw (ew, k .point) (looked-is table u (getD codes i 0) (after-range version variant codes t i (k .range)) (code-fits variant (getD codes i 0) small)) in
         let back = depth-back (after version variant codes t (suc i) .predictor) (stepped-range version variant u (getD codes i 0) .predictor) in
         record {
-          long = simp length-set (k .long);
-          done = fill-next (predictorAt version variant codes t) predictors i x (omega (arith, k .long)) (k .done) (ex ∙ rw next back);
+          range = k .range;
+          long = rw ep (simp length-set (k .long));
+          done = rw ep
+              (fill-next (predictorAt version variant codes t) predictors i (pos 32767 -ℤ pos (r .depth)) (omega (arith, k .long)) (k .done) (rw next back));
           point = rw add-one next;
         }
-
-    pub ran-all : {n i : ℕ} {predictors : List ℤ} {s : Point} {r : State} → Ran i predictors s → i ≡ n → r ≡ stateOf variant s
-        → (r ≡ after version variant codes t n) × (take n predictors ≡ tabulate (predictorAt version variant codes t) n)
-    ran-all {n} {i} k e er =
-        (er ∙ rw (k .point, e) (kept-back variant _ (after-range version variant codes t n range)), rw e at (k .done))
 
 -- ---- the loop of the output gain
 
@@ -103,14 +115,15 @@ module _ (version volume : ℕ) (predictors : List ℤ) where
 
 -- ---- a fragment
 
+pub few : (version n : ℕ) → n ≤ frameSamples version → n ≤ 64
+few version n h = omega (arith, frame-few (anew version))
+
+pub start-in-range : (version : ℕ) (fragment : List ℕ) (s : State) {start : State} → start ≡ startState version s fragment → InRange s → InRange start
+start-in-range version fragment s e r =
+    rw e (cond-ind (anew version) (fragmentStart (indexByte fragment)) s InRange (λ t. start-range (indexByte fragment)) (λ t. r))
+
 module _ (version : ℕ) (variant : Variant) (fragment : List ℕ) (s : State) (n : ℕ) (h : n ≤ frameSamples version) {start : State} {codes : List ℕ}
     (es : start ≡ startState version s fragment) (ec : codes ≡ firstCodes version variant fragment) where
-  pub start-in-range : InRange s → InRange start
-  start-in-range r = rw es (cond-ind (anew version) (fragmentStart (indexByte fragment)) s InRange (λ t. start-range (indexByte fragment)) (λ t. r))
-
-  pub few : n ≤ 64
-  few = omega (arith, frame-few (anew version))
-
   pub played-samples : (predictors : List ℤ) {samples : List ℤ}
       → take n predictors ≡ tabulate (predictorAt version variant codes start) n
       → samples ≡ tabulate (λ i. outputGain version (volumeByte fragment) (getD predictors i (pos 0))) 64
@@ -118,7 +131,7 @@ module _ (version : ℕ) (variant : Variant) (fragment : List ℕ) (s : State) (
   unfolding sampleAt
   played-samples predictors ep ex =
       run-samples version variant fragment s n h es ec refl
-      (rw (ex, take-tabulate (λ i. outputGain version (volumeByte fragment) (getD predictors i (pos 0))) 64 n few)
+      (rw (ex, take-tabulate (λ i. outputGain version (volumeByte fragment) (getD predictors i (pos 0))) 64 n (few version n h))
       (tabulate-ext _ _ n
       (λ i l. ap (outputGain version (volumeByte fragment))
       (sym (getD-take n predictors i (pos 0) l) ∙ rw ep (getD-tabulate (predictorAt version variant codes start) n i (pos 0) l)))))

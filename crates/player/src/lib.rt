@@ -2,17 +2,18 @@
 // gain applied to all, so that each loop is small and has no branch.
 use format::State;
 use format::Variant;
+use lookup::Point;
 ghost use mathlib.Core.Path.{_≡_};
 ghost use mathlib.Core.Bool.{cond};
 ghost use Prim.Native.Nat.{ℕ, _+_, _<_, _≤_, _^_};
-ghost use lib.IntN.{pos};
-ghost use lib.ListN.{length, getD, take};
+ghost use lib.IntN.{pos, _-ℤ_};
+ghost use lib.ListN.{length, getD, set, take};
 ghost use Rattle.lists.specs.Lists.{tabulate};
 ghost use Rattle.digits.specs.Digits.{field, unpacked};
-ghost use Rattle.format.specs.Layout.{anew, bits, payloadBytes, fragmentSize, frameSamples};
+ghost use Rattle.format.specs.Layout.{anew, bits, payload, payloadBytes, fragmentSize, frameSamples};
 ghost use Rattle.format.specs.Gain.{outputGain};
 ghost use Rattle.format.specs.Decode.{startState, after, decodedFragment, InRange};
-ghost use Rattle.lookup.specs.Lookup.{Lookup};
+ghost use Rattle.lookup.specs.Lookup.{Lookup, looked};
 ghost use Rattle.player.specs.Play.{predictorAt};
 
 // Internal: codes of 4 bits, two in a byte.
@@ -67,6 +68,26 @@ fn unpack(variant: Variant, payload: &[u8], codes: &mut [u8; 64])
     }
 }
 
+// Internal: one code more: the state after it, and its predictor at place i.
+fn turn(
+    s: Point,
+    code: u8,
+    w: u8,
+    sizes: &[u16],
+    nexts: &[u16],
+    i: usize,
+    predictors: &mut [i16; 64],
+) -> Point
+    requires { ⌜ (s .depth ≤ 65535) × (code < w + w) × (s .at + w ≤ length (now sizes)) × (length (now nexts) ≡ length (now sizes)) × (i < 64) ⌝ }
+    ensures { λ r. ⌜ (r ≡ looked w (now (sizes .entry)) (now (nexts .entry)) s code)
+        × (now (predictors .exit) ≡ set (now (predictors .entry)) i (pos 32767 -ℤ pos (r .depth))) ⌝ }
+{
+    let next = lookup::step(s, code, w, sizes, nexts);
+    let depth = next.depth;
+    predictors[i] = signed::at_depth(depth);
+    next
+}
+
 // Internal: the predictors after each of the first n codes, and the state after them.
 fn run(
     version: u8,
@@ -87,12 +108,54 @@ fn run(
     let mut s = lookup::keep(variant, state);
     let mut i = 0;
     while i < n {
-        s = lookup::step(s, codes[i], w, sizes, nexts);
-        let depth = s.depth;
-        predictors[i] = signed::at_depth(depth);
+        s = turn(s, codes[i], w, sizes, nexts, i, predictors);
         i += 1;
     }
     lookup::state_of(variant, s)
+}
+
+// The states of two fragments.
+pub struct Two {
+    pub first: State,
+    pub second: State,
+}
+
+// Internal: the same for two fragments in step, so that neither waits for the other.
+fn run_two(
+    version: u8,
+    variant: Variant,
+    sizes: &[u16],
+    nexts: &[u16],
+    states: Two,
+    codes: &[u8; 64],
+    others: &[u8; 64],
+    n: usize,
+    predictors: &mut [i16; 64],
+    seconds: &mut [i16; 64],
+) -> Two
+    requires { ⌜ Lookup version variant (now sizes) (now nexts) × InRange (states .first) × InRange (states .second)
+        × ((i : ℕ) → getD (now codes) i 0 < 2 ^ bits variant) × ((i : ℕ) → getD (now others) i 0 < 2 ^ bits variant)
+        × (n ≤ 64) × (length (now predictors) ≡ 64) × (length (now seconds) ≡ 64) ⌝ }
+    ensures { λ r. ⌜ (r .first ≡ after version variant (now (codes .entry)) (states .first) n)
+        × (take n (now (predictors .exit)) ≡ tabulate (predictorAt version variant (now (codes .entry)) (states .first)) n)
+        × (r .second ≡ after version variant (now (others .entry)) (states .second) n)
+        × (take n (now (seconds .exit)) ≡ tabulate (predictorAt version variant (now (others .entry)) (states .second)) n) ⌝ }
+{
+    let w = lookup::row_size(variant);
+    let first = states.first;
+    let second = states.second;
+    let mut s = lookup::keep(variant, first);
+    let mut t = lookup::keep(variant, second);
+    let mut i = 0;
+    while i < n {
+        s = turn(s, codes[i], w, sizes, nexts, i, predictors);
+        t = turn(t, others[i], w, sizes, nexts, i, seconds);
+        i += 1;
+    }
+    Two {
+        first: lookup::state_of(variant, s),
+        second: lookup::state_of(variant, t),
+    }
 }
 
 // Internal: the output gain of a version, for every predictor.
@@ -129,6 +192,15 @@ fn state_after(version: u8, state: State, end: State) -> State
     end
 }
 
+// Internal: the sixty-four codes of a fragment.
+fn unpack_fragment(version: u8, variant: Variant, fragment: &[u8], codes: &mut [u8; 64])
+    requires { ⌜ (length (now fragment) ≡ fragmentSize version variant) × (length (now codes) ≡ 64) ⌝ }
+    ensures { λ _. ⌜ now (codes .exit) ≡ unpacked (bits variant) 64 (payload version (now (fragment .entry))) ⌝ }
+{
+    let from = inspect::prefix_size(version);
+    unpack(variant, &fragment[from..], codes);
+}
+
 // Internal: the first n samples of a fragment, from a channel's state, and the state after it.
 pub fn play(
     version: u8,
@@ -145,10 +217,9 @@ pub fn play(
     ensures { λ r. ⌜ (r ≡ decodedFragment version variant state (now (fragment .entry)) n .state)
         × (take n (now (samples .exit)) ≡ decodedFragment version variant state (now (fragment .entry)) n .samples) ⌝ }
 {
-    let from = inspect::prefix_size(version);
     let start = state_before(version, state, fragment);
     let mut codes = [0u8; 64];
-    unpack(variant, &fragment[from..], &mut codes);
+    unpack_fragment(version, variant, fragment, &mut codes);
     let mut predictors = [0i16; 64];
     let end = run(
         version,
@@ -162,4 +233,61 @@ pub fn play(
     );
     apply_volume(version, &predictors, fragment[0], samples);
     state_after(version, state, end)
+}
+
+// Internal: the same of two fragments in step.
+pub fn play_two(
+    version: u8,
+    variant: Variant,
+    sizes: &[u16],
+    nexts: &[u16],
+    states: Two,
+    fragment: &[u8],
+    other: &[u8],
+    n: usize,
+    samples: &mut [i16; 64],
+    others: &mut [i16; 64],
+) -> Two
+    requires { ⌜ Lookup version variant (now sizes) (now nexts) × InRange (states .first) × InRange (states .second)
+        × (length (now fragment) ≡ fragmentSize version variant) × (length (now other) ≡ fragmentSize version variant)
+        × (n ≤ frameSamples version) × (length (now samples) ≡ 64) × (length (now others) ≡ 64) ⌝ }
+    ensures { λ r. ⌜ (r .first ≡ decodedFragment version variant (states .first) (now (fragment .entry)) n .state)
+        × (take n (now (samples .exit)) ≡ decodedFragment version variant (states .first) (now (fragment .entry)) n .samples)
+        × (r .second ≡ decodedFragment version variant (states .second) (now (other .entry)) n .state)
+        × (take n (now (others .exit)) ≡ decodedFragment version variant (states .second) (now (other .entry)) n .samples) ⌝ }
+{
+    let first = states.first;
+    let second = states.second;
+    let start = state_before(version, first, fragment);
+    let other_start = state_before(version, second, other);
+    let mut codes = [0u8; 64];
+    unpack_fragment(version, variant, fragment, &mut codes);
+    let mut other_codes = [0u8; 64];
+    unpack_fragment(version, variant, other, &mut other_codes);
+    let mut predictors = [0i16; 64];
+    let mut other_predictors = [0i16; 64];
+    let starts = Two {
+        first: start,
+        second: other_start,
+    };
+    let ends = run_two(
+        version,
+        variant,
+        sizes,
+        nexts,
+        starts,
+        &codes,
+        &other_codes,
+        n,
+        &mut predictors,
+        &mut other_predictors,
+    );
+    apply_volume(version, &predictors, fragment[0], samples);
+    apply_volume(version, &other_predictors, other[0], others);
+    let end = ends.first;
+    let other_end = ends.second;
+    Two {
+        first: state_after(version, first, end),
+        second: state_after(version, second, other_end),
+    }
 }
