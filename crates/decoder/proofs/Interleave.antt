@@ -1,11 +1,11 @@
 -- Writing an interleaved output fragment by fragment, in file order, gives the output that is defined by index.
 -- Assumes nothing.
-use mathlib.Core.Path.{_≡_, refl, sym, _∙_, ap, subst}
-use mathlib.Core.Logic.{_≢_}
 use Prim.Native.Nat.{ℕ, zero, suc, _+_, _*_, _-_, _/_, _%_, _≤_, _<_, min}
 use native.Mathlib.Omega.{arith}
 use native.Mathlib.Nat.{mul-le-mul-right, div-add-mod', mod-lt, le-div-iff-mul-le, div-mul-le-self, div-lt-iff-lt-mul}
 use native.Mathlib.Decide.{decLt, ℕ-discrete}
+use mathlib.Core.Path.{_≡_, refl, sym, _∙_, ap, subst}
+use mathlib.Core.Logic.{_≢_}
 use mathlib.Core.List.{List, _++_}
 use lib.Arith.{digits-lt, digits-div, digits-mod}
 use lib.ListN.{length, getD, take, drop, set, length-append, length-drop, length-set, List·getD-append}

@@ -6,15 +6,16 @@ use format::Header;
 use format::Inspected;
 use format::State;
 use format::Variant;
+use player::Two;
 ghost use mathlib.Core.Path.{_≡_};
-ghost use Prim.Native.Nat.{_+_, _*_, _/_, _<_, _≤_};
+ghost use Prim.Native.Nat.{ℕ, _+_, _*_, _/_, _%_, _<_, _≤_};
 ghost use lib.IntN.{pos};
 ghost use lib.ListN.{length, take};
 ghost use Rattle.format.specs.Layout.{frames, count, streamLength};
 ghost use Rattle.format.specs.Decode.{InRange};
 ghost use Rattle.format.specs.Answers.{AsDecoded};
 ghost use Rattle.lookup.specs.Lookup.{Lookup};
-ghost use Rattle.decoder.specs.Loops.{spread, placeDecoded, startStates, loopOut};
+ghost use Rattle.decoder.specs.Loops.{spread, placeDecoded, InStep, AllInRange, Stream, turnStates, turnOut, startStates, loopOut};
 
 // Internal: the first n samples of a fragment go to their channel's places, sample w to (first + w) * channels + channel.
 fn put_samples(
@@ -69,30 +70,149 @@ fn decode_place(
     )
 }
 
-// Internal: the samples of every fragment, in file order, with one state for each channel.
-fn decode_fragments(file: &[u8], h: Header, sizes: &[u16], nexts: &[u16], out: &mut [i16])
-    requires { ⌜ Lookup (h .version) (h .variant) (now sizes) (now nexts) × (0 < h .channels) × (h .channels ≤ 2) × (length (now file) ≡ streamLength h)
-        × (h .samples * h .channels ≤ length (now out)) ⌝ }
-    ensures { λ _. ⌜ now (out .exit) ≡ loopOut h (now (file .entry)) startStates (now (out .entry)) (frames h * h .channels) ⌝ }
+// Internal: the same of the fragments at `p` and `p + 1`, in step.
+fn decode_places(
+    file: &[u8],
+    h: Header,
+    sizes: &[u16],
+    nexts: &[u16],
+    p: usize,
+    states: Two,
+    samples: &mut [i16; 64],
+    others: &mut [i16; 64],
+) -> Two
+    requires { ⌜ Lookup (h .version) (h .variant) (now sizes) (now nexts) × (0 < h .channels) × (length (now file) ≡ streamLength h)
+        × (p + 1 < frames h * h .channels) × InStep h p × InRange (states .first) × InRange (states .second)
+        × (length (now samples) ≡ 64) × (length (now others) ≡ 64) ⌝ }
+    ensures { λ r. ⌜ (take (count h (p / h .channels)) (now (samples .exit)) ≡ placeDecoded h (now (file .entry)) p (states .first) .samples)
+        × (r .first ≡ placeDecoded h (now (file .entry)) p (states .first) .state)
+        × (take (count h ((p + 1) / h .channels)) (now (others .exit)) ≡ placeDecoded h (now (file .entry)) (p + 1) (states .second) .samples)
+        × (r .second ≡ placeDecoded h (now (file .entry)) (p + 1) (states .second) .state) ⌝ }
+{
+    let variant = h.variant;
+    let channels = h.channels as usize;
+    let n = inspect::count_at(h, p / channels);
+    let fragment = inspect::fragment_at(file, h, p);
+    let other = inspect::fragment_at(file, h, p + 1);
+    player::play_two(
+        h.version,
+        variant,
+        sizes,
+        nexts,
+        states,
+        fragment,
+        other,
+        n,
+        samples,
+        others,
+    )
+}
+
+// Internal: the turn of the fragment at place `p`: its samples into the output, and the states of the channels after it.
+fn decode_one(
+    file: &[u8],
+    h: Header,
+    sizes: &[u16],
+    nexts: &[u16],
+    p: usize,
+    states: [State; 2],
+    out: &mut [i16],
+) -> [State; 2]
+    requires { ⌜ Stream h (now file) (now sizes) (now nexts) (now out) × (p < frames h * h .channels) × AllInRange states ⌝ }
+    ensures { λ r. ⌜ (r ≡ turnStates h (now (file .entry)) p states)
+        × (now (out .exit) ≡ turnOut h (now (file .entry)) p states (now (out .entry))) ⌝ }
 {
     let channels = h.channels as usize;
     let whole = format::frame_samples(h.version);
+    let channel = p % channels;
+    let f = p / channels;
+    let n = inspect::count_at(h, f);
+    let s = states[channel];
+    let mut samples = [0i16; 64];
+    let next = decode_place(file, h, sizes, nexts, p, s, &mut samples);
+    put_samples(out, &samples, f * whole, channels, channel, n);
+    let mut after = states;
+    after[channel] = next;
+    after
+}
+
+// Internal: the turns of the fragments at `p` and `p + 1`.
+fn decode_two(
+    file: &[u8],
+    h: Header,
+    sizes: &[u16],
+    nexts: &[u16],
+    p: usize,
+    states: [State; 2],
+    out: &mut [i16],
+) -> [State; 2]
+    requires { ⌜ Stream h (now file) (now sizes) (now nexts) (now out) × (p + 1 < frames h * h .channels) × InStep h p × AllInRange states ⌝ }
+    ensures { λ r. ⌜ (r ≡ turnStates h (now (file .entry)) (p + 1) (turnStates h (now (file .entry)) p states))
+        × (now (out .exit) ≡ turnOut h (now (file .entry)) (p + 1) (turnStates h (now (file .entry)) p states)
+        (turnOut h (now (file .entry)) p states (now (out .entry)))) ⌝ }
+{
+    let channels = h.channels as usize;
+    let whole = format::frame_samples(h.version);
+    let channel = p % channels;
+    let channel2 = (p + 1) % channels;
+    let f = p / channels;
+    let f2 = (p + 1) / channels;
+    let n = inspect::count_at(h, f);
+    let n2 = inspect::count_at(h, f2);
+    let s = states[channel];
+    let s2 = states[channel2];
+    let two = Two {
+        first: s,
+        second: s2,
+    };
+    let mut samples = [0i16; 64];
+    let mut samples2 = [0i16; 64];
+    let next = decode_places(file, h, sizes, nexts, p, two, &mut samples, &mut samples2);
+    put_samples(out, &samples, f * whole, channels, channel, n);
+    put_samples(out, &samples2, f2 * whole, channels, channel2, n2);
+    let first = next.first;
+    let second = next.second;
+    let mut after = states;
+    after[channel] = first;
+    after[channel2] = second;
+    after
+}
+
+// How many of the fragments are decoded two at a time: all but an odd last one where the two channels of a frame, or any two
+// fragments of version 3, do not wait for each other.
+fn paired(h: Header, fragments: usize) -> usize
+    ensures { λ r. ⌜ (r ≤ fragments) × (r % 2 ≡ 0) × ((p : ℕ) → p % 2 ≡ 0 → p < r → InStep h p) ⌝ }
+{
+    if h.channels == 2 {
+        return fragments / 2 * 2;
+    }
+    if 3 <= h.version {
+        return fragments / 2 * 2;
+    }
+    0
+}
+
+// Internal: the samples of every fragment, in file order, with one state for each channel.
+fn decode_fragments(file: &[u8], h: Header, sizes: &[u16], nexts: &[u16], out: &mut [i16])
+    requires { ⌜ Stream h (now file) (now sizes) (now nexts) (now out) ⌝ }
+    ensures { λ _. ⌜ now (out .exit) ≡ loopOut h (now (file .entry)) startStates (now (out .entry)) (frames h * h .channels) ⌝ }
+{
     let fragments = inspect::fragment_count(h);
+    let pairs = paired(h, fragments);
     let zero = State {
         predictor: 0,
         index: 0,
     };
     let mut states = [zero; 2];
     let mut p = 0;
+    while p < pairs {
+        let next = decode_two(file, h, sizes, nexts, p, states, out);
+        states = next;
+        p += 2;
+    }
     while p < fragments {
-        let channel = p % channels;
-        let f = p / channels;
-        let n = inspect::count_at(h, f);
-        let s = states[channel];
-        let mut samples = [0i16; 64];
-        let next = decode_place(file, h, sizes, nexts, p, s, &mut samples);
-        states[channel] = next;
-        put_samples(out, &samples, f * whole, channels, channel, n);
+        let next = decode_one(file, h, sizes, nexts, p, states, out);
+        states = next;
         p += 1;
     }
 }

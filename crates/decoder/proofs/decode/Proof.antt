@@ -1,7 +1,7 @@
 -- `decoder::decode` meets its contract. Assumes nothing.
-use mathlib.Core.Path.{sym}
 use native.Mathlib.Nat.{mul-le-mul-left}
 use native.Mathlib.Omega.{arith}
+use mathlib.Core.Path.{sym}
 use borrow.Author.Needs.{needs}
 use Rattle.format.proofs.Accepted.{accepted}
 use Rattle.format.proofs.Sizes.{channels-few}

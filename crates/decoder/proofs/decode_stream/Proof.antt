@@ -22,7 +22,7 @@ slice-aggregate-decode-fragments-2 c = search needs
 decode-fragments-requires : tie.Need-decode-fragments-requires
 decode-fragments-requires c κs =
     let k = c .before .before .before .before .before .before .before .before .pre in
-    (rw (c .before .before .before .before .before .enum-told .given .1) (record { size = c .before .before .before .before .h-sizes .ensures (c .before .before .before .before .before .before .before .before .args .h .version); next = c .before .before .before .h-nexts .ensures }), k .0, k .1, k .2, k .3)
+    record { tables = rw (c .before .before .before .before .before .enum-told .given .1) (record { size = c .before .before .before .before .h-sizes .ensures (c .before .before .before .before .before .before .before .before .args .h .version); next = c .before .before .before .h-nexts .ensures }); some = k .0; few = k .1; size = k .2; room = k .3 }
 
 enum-told-2 : tie.Need-enum-told-2
 enum-told-2 c = search needs
@@ -42,7 +42,7 @@ slice-aggregate-decode-fragments-4 c = search needs
 decode-fragments-requires-2 : tie.Need-decode-fragments-requires-2
 decode-fragments-requires-2 c κs =
     let k = c .before .before .before .before .before .before .before .before .pre in
-    (rw (c .before .before .before .before .before .enum-told2 .given .1) (record { size = c .before .before .before .before .l-sizes .ensures _; next = c .before .before .before .l-nexts .ensures .0 }), k .0, k .1, k .2, k .3)
+    record { tables = rw (c .before .before .before .before .before .enum-told2 .given .1) (record { size = c .before .before .before .before .l-sizes .ensures _; next = c .before .before .before .l-nexts .ensures .0 }); some = k .0; few = k .1; size = k .2; room = k .3 }
 
 enum-told-3 : tie.Need-enum-told-3
 enum-told-3 c = search needs
@@ -62,7 +62,7 @@ slice-aggregate-decode-fragments-6 c = search needs
 decode-fragments-requires-3 : tie.Need-decode-fragments-requires-3
 decode-fragments-requires-3 c κs =
     let k = c .before .before .before .before .before .before .before .before .before .before .pre in
-    (rw (c .before .before .before .before .before .before .before .enum-told3 .given .1, c .before .before .before .before .before .if1 .taken) (record { size = c .before .before .before .before .legacy-l-plus-sizes .ensures; next = c .before .before .before .l-nexts2 .ensures .1 }), k .0, k .1, k .2, k .3)
+    record { tables = rw (c .before .before .before .before .before .before .before .enum-told3 .given .1, c .before .before .before .before .before .if1 .taken) (record { size = c .before .before .before .before .legacy-l-plus-sizes .ensures; next = c .before .before .before .l-nexts2 .ensures .1 }); some = k .0; few = k .1; size = k .2; room = k .3 }
 
 l-plus-sizes-requires : tie.Need-l-plus-sizes-requires
 l-plus-sizes-requires c κs = search needs
@@ -79,7 +79,7 @@ slice-aggregate-decode-fragments-8 c = search needs
 decode-fragments-requires-4 : tie.Need-decode-fragments-requires-4
 decode-fragments-requires-4 c κs =
     let k = c .before .before .before .before .before .before .before .before .before .before .pre in
-    (rw (c .before .before .before .before .before .before .before .enum-told3 .given .1) (record { size = c .before .before .before .before .l-plus-sizes .ensures _ (ne-eqb _ _ (c .before .before .before .before .before .if1 .left)); next = c .before .before .before .l-nexts3 .ensures .1 }), k .0, k .1, k .2, k .3)
+    record { tables = rw (c .before .before .before .before .before .before .before .enum-told3 .given .1) (record { size = c .before .before .before .before .l-plus-sizes .ensures _ (ne-eqb _ _ (c .before .before .before .before .before .if1 .left)); next = c .before .before .before .l-nexts3 .ensures .1 }); some = k .0; few = k .1; size = k .2; room = k .3 }
 
 same-length : tie.Need-same-length
 same-length c = search needs
