@@ -15,9 +15,9 @@ use Rattle.format.specs.declared.State.{State}
 use Rattle.format.specs.declared.Header.{Header}
 use Rattle.signed.proofs.Laws.{product-le}
 use Rattle.format.proofs.Sizes.{frames-few}
-use Rattle.inspect.proofs.Places.{Room, frame-of, frame-room}
+use Rattle.inspect.proofs.Places.{frame-room}
 use Rattle.format.proofs.Range.{returned-anew, returned-range}
-use Rattle.decoder.specs.Loops.{spread, placeDecoded, InStep, AllInRange, turnState, turnStates, turnOut}
+use Rattle.decoder.specs.Loops.{spread, putAt, placeDecoded, InStep, AllInRange, turnState, turnStates, turnOut}
 use Rattle.decoder.proofs.Interleave.{spread-take}
 
 -- ---- an element replaced
@@ -37,10 +37,58 @@ set-self d (a ∷ l) zero k = refl
 set-self d (a ∷ l) (suc j) zero = refl
 set-self d (a ∷ l) (suc j) (suc k) = set-self d l j k
 
--- the samples of a place lie in the output
-pub place-room : (h : Header) (p len : ℕ) → 0 < h .channels → p < frames h * h .channels → h .samples * h .channels ≤ len
-    → Room (p / h .channels * wholeFrame h) (count h (p / h .channels)) (h .channels) (h .samples) len
-place-room h p len hc hp l = frame-room h (p / h .channels) len (frame-of p (frames h) (h .channels) hc hp) l
+-- ---- where samples are put
+
+pub one-channel : (h : Header) → 0 < h .channels → h .channels ≤ 2 → (h .channels ≡ 2 → ⊥) → h .channels ≡ 1
+one-channel h a b n = omega arith
+
+times : {c k : ℕ} (n p : ℕ) → c ≡ k → p < n * c → p < n * k
+times n p e l = rw e at l
+
+within : {c k : ℕ} (n len : ℕ) → c ≡ k → n * c ≤ len → n * k ≤ len
+within n len e l = rw e at l
+
+pub next-below : {p m : ℕ} → p + 1 < m → p < m
+next-below l = omega arith
+
+module _ (h : Header) (p len : ℕ) (room : h .samples * h .channels ≤ len) where
+  -- one channel: place p is frame p
+  pub mono-room : h .channels ≡ 1 → p < frames h * h .channels → (p * wholeFrame h ≤ h .samples) × (p * wholeFrame h + count h p ≤ len)
+  mono-room e l =
+      let f : p < frames h = omega (arith, times (frames h) p e l) in
+      let r = frame-room h p len f room in
+      (r .start, omega (arith, within (p * wholeFrame h + count h p) len e (r .within)))
+
+  -- two channels: places p and p + 1 are frame p / 2
+  pub stereo-room : h .channels ≡ 2 → p + 1 < frames h * h .channels
+      → (p / 2 * wholeFrame h ≤ h .samples) × ((p / 2 * wholeFrame h + count h (p / 2)) * 2 ≤ len)
+  stereo-room e l =
+      let f : p / 2 < frames h = omega (arith, times (frames h) (p + 1) e l) in
+      let r = frame-room h (p / 2) len f room in
+      (r .start, within (p / 2 * wholeFrame h + count h (p / 2)) len e (r .within))
+
+pub mono-state : (h : Header) (p : ℕ) → h .channels ≡ 1 → p % h .channels ≡ 0
+mono-state h p e = rw e (omega arith)
+
+module _ (h : Header) (p : ℕ) (o xs : List ℤ) where
+  pub mono-put : h .channels ≡ 1 → spread (pos 0) o xs (p * wholeFrame h) 1 0 (count h p) ≡ putAt h p xs o
+  mono-put e =
+      let q : p / 1 ≡ p = omega arith in
+      let m : p % 1 ≡ 0 = omega arith in
+      rw (e, q, m)
+
+  pub stereo-put : (ys : List ℤ) → h .channels ≡ 2 → p % 2 ≡ 0
+      → spread (pos 0) (spread (pos 0) o xs (p / 2 * wholeFrame h) 2 0 (count h (p / 2))) ys (p / 2 * wholeFrame h) 2 1 (count h (p / 2))
+      ≡ putAt h (p + 1) ys (putAt h p xs o)
+  stereo-put ys e m =
+      let q : (p + 1) / 2 ≡ p / 2 = omega arith in
+      let n : (p + 1) % 2 ≡ 1 = omega arith in
+      rw (e, m, q, n)
+
+-- a fragment that is left by the pairs is of one channel
+pub last-odd : (h : Header) {fragments pairs p : ℕ} → 0 < h .channels → h .channels ≤ 2 → fragments ≡ frames h * h .channels → pairs % 2 ≡ 0
+    → (h .channels ≡ 2 → fragments < pairs + 2) → pairs ≤ p → p < fragments → h .channels ≡ 1
+last-odd h {fragments} {pairs} {p} some few ef even all lo hi = one-channel h some few (λ e. omega (arith, all e, ef ∙ ap (frames h *_) e))
 
 -- the places of a stream are few
 pub places-few : (h : Header) → h .samples ≤ 4294967295 → h .channels ≤ 255 → frames h * h .channels < 2 ^ 40
@@ -55,13 +103,13 @@ module _ (h : Header) (d : List ℕ) (p : ℕ) where
       (returned-range (h .version) (h .variant) (turnState h p states) (fragmentAtPlace h d p) (count h (p / h .channels)) (r (p % h .channels)))
 
   -- the output, from samples that begin with those of the place
-  pub turn-out : (s : State) (states : List State) (o samples : List ℤ) {r : List ℤ} {whole n : ℕ} → s ≡ turnState h p states
-      → take (count h (p / h .channels)) samples ≡ placeDecoded h d p s .samples → whole ≡ wholeFrame h → n ≡ count h (p / h .channels)
-      → r ≡ spread (pos 0) o samples (p / h .channels * whole) (h .channels) (p % h .channels) n → r ≡ turnOut h d p states o
-  turn-out s states o samples es ex ew en er =
+  pub turn-out : (s : State) (states : List State) (o samples : List ℤ) {r : List ℤ} → s ≡ turnState h p states
+      → take (count h (p / h .channels)) samples ≡ placeDecoded h d p s .samples → r ≡ putAt h p samples o → r ≡ turnOut h d p states o
+  turn-out s states o samples es ex er =
       let c = h .channels in
-      er ∙ rw (ew, en)
-      (sym (spread-take (pos 0) o samples (p / c * wholeFrame h) c (p % c) (count h (p / c)) (count h (p / c)) (omega arith)) ∙ rw (ex, es))
+      er
+      ∙ sym (spread-take (pos 0) o samples (p / c * wholeFrame h) c (p % c) (count h (p / c)) (count h (p / c)) (omega arith))
+      ∙ rw (ex, es)
 
   -- ---- two turns in step
 

@@ -18,6 +18,10 @@ unfoldable pub spread : {A : Type 0} → A → List A → List A → ℕ → ℕ
 spread d o xs first c ch zero = o
 spread d o xs first c ch (suc n) = set (spread d o xs first c ch n) ((first + n) * c + ch) (getD xs n d)
 
+-- an output after the samples xs of the fragment at place p
+abbrev pub putAt : Header → ℕ → List ℤ → List ℤ → List ℤ
+putAt h p xs o = spread (pos 0) o xs (p / h .channels * wholeFrame h) (h .channels) (p % h .channels) (count h (p / h .channels))
+
 -- an output after the first p fragments in file order, of frames of `whole` samples; xs p are the samples of fragment p
 unfoldable pub outAfter : {A : Type 0} → A → ℕ → ℕ → ℕ → (ℕ → List A) → List A → ℕ → List A
 outAfter d c whole total xs o zero = o
@@ -59,9 +63,7 @@ abbrev pub turnStates : Header → List ℕ → ℕ → List State → List Stat
 turnStates h d p states = set states (p % h .channels) (placeDecoded h d p (turnState h p states) .state)
 
 abbrev pub turnOut : Header → List ℕ → ℕ → List State → List ℤ → List ℤ
-turnOut h d p states o =
-    spread (pos 0) o (placeDecoded h d p (turnState h p states) .samples) (p / h .channels * wholeFrame h) (h .channels) (p % h .channels)
-    (count h (p / h .channels))
+turnOut h d p states o = putAt h p (placeDecoded h d p (turnState h p states) .samples) o
 
 -- one state for each of two channels, at 0, 0
 abbrev pub startStates : List State

@@ -15,26 +15,55 @@ ghost use Rattle.format.specs.Layout.{frames, count, streamLength};
 ghost use Rattle.format.specs.Decode.{InRange};
 ghost use Rattle.format.specs.Answers.{AsDecoded};
 ghost use Rattle.lookup.specs.Lookup.{Lookup};
-ghost use Rattle.decoder.specs.Loops.{spread, placeDecoded, InStep, AllInRange, Stream, turnStates, turnOut, startStates, loopOut};
+ghost use Rattle.decoder.specs.Loops.{spread, putAt, placeDecoded, InStep, AllInRange, Stream, turnStates, turnOut, startStates, loopOut};
 
-// Internal: the first n samples of a fragment go to their channel's places, sample w to (first + w) * channels + channel.
-fn put_samples(
-    out: &mut [i16],
-    samples: &[i16; 64],
-    first: usize,
-    channels: usize,
-    channel: usize,
-    n: usize,
-)
-    requires { ⌜ (n ≤ 64) × (channel < channels) × ((first + n) * channels ≤ length (now out)) ⌝ }
-    ensures { λ _. ⌜ now (out .exit) ≡ spread (pos 0) (now (out .entry)) (now (samples .entry)) first channels channel n ⌝ }
+// Internal: the first n samples of a fragment of one channel go to the places from `first` on.
+fn put_samples(out: &mut [i16], samples: &[i16; 64], first: usize, n: usize)
+    requires { ⌜ (n ≤ 64) × (first + n ≤ length (now out)) ⌝ }
+    ensures { λ _. ⌜ now (out .exit) ≡ spread (pos 0) (now (out .entry)) (now (samples .entry)) first 1 0 n ⌝ }
 {
     let mut w = 0;
     while w < n {
         let x = samples[w];
-        let j = (first + w) * channels + channel;
+        let j = first + w;
         out[j] = x;
         w += 1;
+    }
+}
+
+// Internal: those of a frame of two channels are woven, sample w of channel c to (first + w) * 2 + c.
+fn weave_samples(out: &mut [i16], samples: &[i16; 64], samples2: &[i16; 64], first: usize, n: usize)
+    requires { ⌜ (n ≤ 64) × ((first + n) * 2 ≤ length (now out)) ⌝ }
+    ensures { λ _. ⌜ now (out .exit)
+        ≡ spread (pos 0) (spread (pos 0) (now (out .entry)) (now (samples .entry)) first 2 0 n) (now (samples2 .entry)) first 2 1 n ⌝ }
+{
+    let mut w = 0;
+    while w < n {
+        let x = samples[w];
+        let y = samples2[w];
+        let j = (first + w) * 2;
+        out[j] = x;
+        out[j + 1] = y;
+        w += 1;
+    }
+}
+
+// Internal: the samples of the fragments at `p` and `p + 1`: the two channels of a frame, or two frames of one channel.
+fn put_two(out: &mut [i16], samples: &[i16; 64], samples2: &[i16; 64], h: Header, p: usize)
+    requires { ⌜ (0 < h .channels) × (h .channels ≤ 2) × (p % 2 ≡ 0) × (p + 1 < frames h * h .channels) × (h .samples * h .channels ≤ length (now out)) ⌝ }
+    ensures { λ _. ⌜ now (out .exit) ≡ putAt h (p + 1) (now (samples2 .entry)) (putAt h p (now (samples .entry)) (now (out .entry))) ⌝ }
+{
+    let whole = format::frame_samples(h.version);
+    if h.channels == 2 {
+        let f = p / 2;
+        let n = inspect::count_at(h, f);
+        weave_samples(out, samples, samples2, f * whole, n);
+    } else {
+        let n = inspect::count_at(h, p);
+        put_samples(out, samples, p * whole, n);
+        let next = p + 1;
+        let n2 = inspect::count_at(h, next);
+        put_samples(out, samples2, next * whole, n2);
     }
 }
 
@@ -108,7 +137,7 @@ fn decode_places(
     )
 }
 
-// Internal: the turn of the fragment at place `p`: its samples into the output, and the states of the channels after it.
+// Internal: the turn of the fragment at place `p` of one channel: its samples into the output, and the states after it.
 fn decode_one(
     file: &[u8],
     h: Header,
@@ -118,21 +147,18 @@ fn decode_one(
     states: [State; 2],
     out: &mut [i16],
 ) -> [State; 2]
-    requires { ⌜ Stream h (now file) (now sizes) (now nexts) (now out) × (p < frames h * h .channels) × AllInRange states ⌝ }
+    requires { ⌜ Stream h (now file) (now sizes) (now nexts) (now out) × (h .channels ≡ 1) × (p < frames h * h .channels) × AllInRange states ⌝ }
     ensures { λ r. ⌜ (r ≡ turnStates h (now (file .entry)) p states)
         × (now (out .exit) ≡ turnOut h (now (file .entry)) p states (now (out .entry))) ⌝ }
 {
-    let channels = h.channels as usize;
     let whole = format::frame_samples(h.version);
-    let channel = p % channels;
-    let f = p / channels;
-    let n = inspect::count_at(h, f);
-    let s = states[channel];
+    let n = inspect::count_at(h, p);
+    let s = states[0];
     let mut samples = [0i16; 64];
     let next = decode_place(file, h, sizes, nexts, p, s, &mut samples);
-    put_samples(out, &samples, f * whole, channels, channel, n);
+    put_samples(out, &samples, p * whole, n);
     let mut after = states;
-    after[channel] = next;
+    after[0] = next;
     after
 }
 
@@ -146,19 +172,14 @@ fn decode_two(
     states: [State; 2],
     out: &mut [i16],
 ) -> [State; 2]
-    requires { ⌜ Stream h (now file) (now sizes) (now nexts) (now out) × (p + 1 < frames h * h .channels) × InStep h p × AllInRange states ⌝ }
+    requires { ⌜ Stream h (now file) (now sizes) (now nexts) (now out) × (p % 2 ≡ 0) × (p + 1 < frames h * h .channels) × InStep h p × AllInRange states ⌝ }
     ensures { λ r. ⌜ (r ≡ turnStates h (now (file .entry)) (p + 1) (turnStates h (now (file .entry)) p states))
         × (now (out .exit) ≡ turnOut h (now (file .entry)) (p + 1) (turnStates h (now (file .entry)) p states)
         (turnOut h (now (file .entry)) p states (now (out .entry)))) ⌝ }
 {
     let channels = h.channels as usize;
-    let whole = format::frame_samples(h.version);
     let channel = p % channels;
     let channel2 = (p + 1) % channels;
-    let f = p / channels;
-    let f2 = (p + 1) / channels;
-    let n = inspect::count_at(h, f);
-    let n2 = inspect::count_at(h, f2);
     let s = states[channel];
     let s2 = states[channel2];
     let two = Two {
@@ -168,8 +189,7 @@ fn decode_two(
     let mut samples = [0i16; 64];
     let mut samples2 = [0i16; 64];
     let next = decode_places(file, h, sizes, nexts, p, two, &mut samples, &mut samples2);
-    put_samples(out, &samples, f * whole, channels, channel, n);
-    put_samples(out, &samples2, f2 * whole, channels, channel2, n2);
+    put_two(out, &samples, &samples2, h, p);
     let first = next.first;
     let second = next.second;
     let mut after = states;
@@ -181,7 +201,7 @@ fn decode_two(
 // How many of the fragments are decoded two at a time: all but an odd last one where the two channels of a frame, or any two
 // fragments of version 3, do not wait for each other.
 fn paired(h: Header, fragments: usize) -> usize
-    ensures { λ r. ⌜ (r ≤ fragments) × (r % 2 ≡ 0) × ((p : ℕ) → p % 2 ≡ 0 → p < r → InStep h p) ⌝ }
+    ensures { λ r. ⌜ (r ≤ fragments) × (r % 2 ≡ 0) × (h .channels ≡ 2 → fragments < r + 2) × ((p : ℕ) → p % 2 ≡ 0 → p < r → InStep h p) ⌝ }
 {
     if h.channels == 2 {
         return fragments / 2 * 2;

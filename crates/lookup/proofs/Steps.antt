@@ -1,7 +1,7 @@
 -- The state that the tables give after a code is the state of the definitions. Assumes nothing.
 use Prim.Native.Nat.{ℕ, zero, suc, _+_, _-_, _*_, _/_, _%_, _^_, _≤_, _<_, min}
 use native.Mathlib.Omega.{arith}
-use native.Mathlib.Nat.{div-eq-of-lt, mul-div-cancel}
+use native.Mathlib.Nat.{div-eq-of-lt, mul-div-cancel, le-of-eq}
 use native.Mathlib.Decide.{decLt}
 use mathlib.Core.Path.{_≡_, refl, ap, _∙_}
 use mathlib.Core.Bool.{Bool, true, false, cond}
@@ -10,6 +10,8 @@ use lib.Arith.{digits-div}
 use lib.Bits.{bitXor, xor-add-and, xor-zero-r, and-mask}
 use lib.Dec.{leb, ltb, leb→le, nleb→lt, ltb→lt, nltb→le}
 use lib.IntN.{ℤ, pos, negsuc, _+ℤ_}
+use lib.ListN.{length, getD, take, drop, length-drop}
+use lib.Seq.{take-all, getD-drop}
 use lib.Signed.{mag}
 use borrow.Author.Tests.{le-leb, lt-leb}
 use Rattle.signed.specs.Signed.{withSign, clamp16, clampTo, depth}
@@ -68,6 +70,12 @@ pub turned-moved : (b : Bool) (d size : ℕ) → d ≤ 65535
     → (bitXor (bitXor d (cond b 65535 0) - size) (cond b 65535 0) ≡ moved b d size) × (moved b d size ≤ 65535)
 turned-moved true d size h = (rw (turned true d h, turned true (65535 - d - size) (omega arith)), omega arith)
 turned-moved false d size h = (rw (turned false d h, turned false (d - size) (omega arith)), omega arith)
+
+-- an element of a list's rest
+pub rest-at : (l : List ℕ) (low from : ℕ) → getD (take (length l - low) (drop low l)) from 0 ≡ getD l (from + low) 0
+rest-at l low from =
+    rw (take-all (length l - low) (drop low l) (le-of-eq (length-drop low l)))
+    (getD-drop low l from 0 ∙ ap (λ i. getD l i 0) (omega arith))
 
 -- ---- a code and its sign
 

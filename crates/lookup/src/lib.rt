@@ -93,14 +93,17 @@ fn place(entry: u16) -> usize
     entry as usize
 }
 
-// Internal: the state after a code.
+// Internal: the state after a code. The next row is read from the table's rest behind the code, so that it waits for the row alone.
 pub fn step(s: Point, code: u8, w: u8, sizes: &[u16], nexts: &[u16]) -> Point
     requires { ⌜ (s .depth ≤ 65535) × (code < w + w) × (s .at + w ≤ length (now sizes)) × (length (now nexts) ≡ length (now sizes)) ⌝ }
     ensures { λ r. ⌜ (r ≡ looked w (now (sizes .entry)) (now (nexts .entry)) s code) × (r .depth ≤ 65535) ⌝ }
 {
-    let k = s.at + unsigned(code, w);
+    let from = s.at;
+    let low = unsigned(code, w);
+    let k = from + low;
     let depth = move_depth(s.depth, w <= code, number(sizes[k]));
-    let at = place(nexts[k]);
+    let rest = &nexts[low..];
+    let at = place(rest[from]);
     Point { depth, at }
 }
 

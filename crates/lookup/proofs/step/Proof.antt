@@ -1,5 +1,6 @@
 -- `lookup::step` meets its contract. Assumes nothing.
 use borrow.Author.Needs.{needs}
+use Rattle.lookup.proofs.Steps.{rest-at}
 use Rattle.lookup.specs.Lookup.{looked}
 use Rattle.lookup.proofs.step.Statement.{statement}
 use Rattle.lookup.proofs.step.Tie as tie
@@ -22,6 +23,18 @@ number-requires c κs = search needs
 move-depth-requires : tie.Need-move-depth-requires
 move-depth-requires c κs = search needs
 
+mul-rest : tie.Need-mul-rest
+mul-rest c = search needs
+
+sub-rest : tie.Need-sub-rest
+sub-rest c = search needs
+
+part-rest-start : tie.Need-part-rest-start
+part-rest-start c = search needs
+
+part-rest-end : tie.Need-part-rest-end
+part-rest-end c = search needs
+
 mul-place : tie.Need-mul-place
 mul-place c = search needs
 
@@ -33,7 +46,10 @@ place-requires c κs = search needs
 
 returns : tie.Need-returns
 unfolding looked
-returns c = (rw (c .before .before .move-depth .ensures .0, c .place .ensures, c .before .before .before .number .ensures, c .before .before .before .before .before .before .unsigned .ensures .0), c .before .before .move-depth .ensures .1)
+returns c =
+    let a = c .before .before .before .before .before .before .before .before .before .args in
+    let low = c .before .before .before .before .before .before .unsigned .result in
+    (rw (c .before .before .before .move-depth .ensures .0, c .place .ensures, c .before .before .before .before .number .ensures, rest-at (a .nexts .now) low (a .s .at), c .before .before .before .before .before .before .unsigned .ensures .0), c .before .before .before .move-depth .ensures .1)
 
 pub step-spec : {M : Type 1} → statement M
 step-spec =
@@ -45,6 +61,10 @@ step-spec =
     shared-slice-read-number
     number-requires
     move-depth-requires
+    mul-rest
+    sub-rest
+    part-rest-start
+    part-rest-end
     mul-place
     shared-slice-read-place
     place-requires
