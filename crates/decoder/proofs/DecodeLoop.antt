@@ -1,29 +1,25 @@
 -- Whole-stream decoding as a loop does it, fragment by fragment in file order with one state for each channel, gives the
 -- definition's samples, which go channel by channel. Assumes nothing.
-use mathlib.Core.Path.{_≡_, refl, sym, _∙_, ap}
 use Prim.Native.Nat.{ℕ, zero, suc, _+_, _*_, _/_, _%_, _≤_, _<_}
 use native.Mathlib.Omega.{arith}
 use native.Mathlib.Numerals.{add-one}
 use native.Mathlib.Nat.{div-add-mod', mod-lt}
+use mathlib.Core.Path.{_≡_, refl, sym, _∙_, ap}
 use mathlib.Core.List.{List, _++_}
 use lib.Arith.{digits-div, digits-mod}
-use borrow.Author.Tests.{le-leb, eq-eqb}
-use mathlib.Core.Bool.{true}
-use lib.Dec.{leb, eqb}
-use lib.Seq.{take-at}
-use Rattle.outcome.proofs.Flags.{both-true}
 use lib.IntN.{ℤ, pos}
-use lib.ListN.{length, getD, take, drop, set}
+use lib.ListN.{length, getD, drop}
 use Rattle.lists.proofs.ByIndex.{tabulate-ext}
-use Rattle.format.specs.Layout.{wholeFrame, frames, count, sizeIn, streamLength, fragmentAtPlace, fragmentAt}
-use Rattle.format.specs.Decode.{zeroState, InRange, decodedFragment, stateBefore, frameDecoded, channelSample, decoded, fragmentFits}
-use Rattle.format.proofs.Sizes.{frame-pos, count-whole, place-length}
-use Rattle.decoder.specs.Loops.{spread, outAfter, statesAfter, placeDecoded, startStates, loopStates, loopSamples, loopOut}
-use Rattle.format.proofs.Range.{before-range, length-decoded}
-use Rattle.decoder.proofs.Interleave.{out-whole, spread-take, length-outAfter}
-use Rattle.decoder.proofs.Turns.{chain, turn-state}
+use Rattle.format.specs.Layout.{wholeFrame, frames, count, fragmentAtPlace, fragmentAt}
+use Rattle.format.specs.Decode.{zeroState, decodedFragment, stateBefore, frameDecoded, channelSample, decoded}
+use Rattle.format.proofs.Sizes.{frame-pos}
+use Rattle.format.proofs.Range.{zero-range}
 use Rattle.format.specs.declared.State.{State}
 use Rattle.format.specs.declared.Header.{Header}
+use Rattle.decoder.specs.Loops.{outAfter, statesAfter, placeDecoded, AllInRange, Stream, turnStates, turnOut, startStates, loopStates, loopSamples, loopOut}
+use Rattle.decoder.proofs.Interleave.{out-whole, length-outAfter}
+use Rattle.decoder.proofs.Turns.{chain, turn-state}
+use Rattle.decoder.proofs.InStep.{turn-range}
 
 module _ (h : Header) (d : List ℕ) (hc : 0 < h .channels) where
   chain-before : (k f : ℕ) → k < h .channels → chain zeroState (h .channels) (λ q s. placeDecoded h d q s .state) k f ≡ stateBefore h (fragmentAt h d k) f
@@ -64,61 +60,48 @@ module _ (h : Header) (d : List ℕ) (hc : 0 < h .channels) where
 
 -- ---- the loop with its two states
 
+start-zero : (k : ℕ) → getD startStates k zeroState ≡ zeroState
+start-zero zero = refl
+start-zero (suc zero) = refl
+start-zero (suc (suc k)) = refl
+
 pub fresh : (k : ℕ) → k < 2 → getD startStates k zeroState ≡ zeroState
-fresh zero h = refl
-fresh (suc zero) h = refl
-fresh (suc (suc k)) h = let z : ⊥ = omega arith in absurd z
+fresh k h = start-zero k
 
 module _ (h : Header) (d : List ℕ) (o : List ℤ) where
   -- after p fragments
   pub record Decoding (p : ℕ) (out : List ℤ) (states : List State) : Type 0 where
     pub out-is : out ≡ loopOut h d startStates o p
     pub states-are : states ≡ loopStates h d startStates p
+    pub range : AllInRange states
 
   pub decoding-none : Decoding 0 o startStates
   unfolding outAfter statesAfter
-  decoding-none = record { out-is = refl; states-are = refl }
+  decoding-none = record { out-is = refl; states-are = refl; range = λ k. rw start-zero zero-range }
 
   pub length-decoding : {p : ℕ} {out : List ℤ} {states : List State} → Decoding p out states → length out ≡ length o
   length-decoding {p} k = ap length (k .out-is) ∙ length-outAfter (pos 0) (h .channels) (wholeFrame h) (h .samples) (loopSamples h d startStates) o p
 
-  -- the state that a turn finds is one of a decoding
-  pub decoding-range : (p : ℕ) {out : List ℤ} {states : List State} → 0 < h .channels → h .channels ≤ 2 → Decoding p out states
-      → InRange (getD states (p % h .channels) zeroState)
-  decoding-range p hc h2 k =
-      rw (k .states-are, turn-before h d hc startStates h2 (λ i l. fresh i (omega arith)) p) (before-range h (fragmentAt h d (p % h .channels)) (p / h .channels))
-
-  pub decoding-more : (p n : ℕ) {out : List ℤ} {states : List State} (samples r : List ℤ) (next : State) (whole : ℕ) → Decoding p out states
-      → whole ≡ wholeFrame h → n ≡ count h (p / h .channels)
-      → take (count h (p / h .channels)) samples ≡ placeDecoded h d p (getD states (p % h .channels) zeroState) .samples
-      → next ≡ placeDecoded h d p (getD states (p % h .channels) zeroState) .state
-      → r ≡ spread (pos 0) out samples (p / h .channels * whole) (h .channels) (p % h .channels) n
-      → Decoding (p + 1) r (set states (p % h .channels) next)
+  -- a turn more, and two
+  pub decoding-more : {p : ℕ} {out r : List ℤ} {states next : List State} → Decoding p out states
+      → next ≡ turnStates h d p states → r ≡ turnOut h d p states out → Decoding (p + 1) r next
   unfolding outAfter statesAfter count
-  decoding-more p n {out} {states} samples r next whole k ew en es et er =
+  decoding-more {p} {out} {r} {states} {next} k en er =
       record {
-        out-is = rw add-one
-            (er ∙ rw (ew, en)
-            (sym (spread-take (pos 0) out samples (p / h .channels * wholeFrame h) (h .channels) (p % h .channels) (count h (p / h .channels)) (count h (p / h .channels)) (omega arith))
-            ∙ rw (es, k .out-is, k .states-are)));
-        states-are = rw (add-one, et, k .states-are);
+        out-is = rw add-one (er ∙ rw (k .out-is, k .states-are));
+        states-are = rw add-one (en ∙ rw (k .states-are));
+        range = rw en (turn-range h d p states (k .range));
       }
 
--- ---- one place
+  pub decoding-two : {p : ℕ} {out r : List ℤ} {states next : List State} → Decoding p out states
+      → next ≡ turnStates h d (p + 1) (turnStates h d p states) → r ≡ turnOut h d (p + 1) (turnStates h d p states) (turnOut h d p states out)
+      → Decoding (p + 2) r next
+  decoding-two {p} k en er =
+      let e : p + 2 ≡ p + 1 + 1 = omega arith in
+      rw e (decoding-more (decoding-more k refl refl) en er)
 
-module _ (h : Header) (d : List ℕ) (p : ℕ) {fragment : List ℕ} (e : fragment ≡ fragmentAtPlace h d p) {n m : ℕ} (en : n ≡ count h (p / h .channels)) (em : m ≡ n) where
-  pub place-fits : length d ≡ streamLength h → p < frames h * h .channels → fragmentFits (h .version) (h .variant) fragment m ≡ true
-  unfolding fragmentFits
-  place-fits size l =
-      rw (em, en, e)
-      (both-true (eqb (length (fragmentAtPlace h d p)) (sizeIn h)) (leb (count h (p / h .channels)) (wholeFrame h))
-      (eq-eqb _ _ (place-length h d p size l)) (le-leb _ _ (count-whole h (p / h .channels))))
-
-  pub place-front : (s : State) (new rest : List ℤ) → new ≡ decodedFragment (h .version) (h .variant) s fragment m .samples
-      → take (count h (p / h .channels)) (new ++ rest) ≡ placeDecoded h d p s .samples
-  place-front s new rest en′ =
-      let k = rw (em, en, e) at en′ in
-      rw k (take-at (placeDecoded h d p s .samples) rest (count h (p / h .channels)) (length-decoded (h .version) (h .variant) s (fragmentAtPlace h d p) (count h (p / h .channels))))
-
-  pub place-state : (s next : State) → next ≡ decodedFragment (h .version) (h .variant) s fragment m .state → next ≡ placeDecoded h d p s .state
-  place-state s next en′ = rw (em, en, e) at en′
+  -- the output is as long as it was
+  pub decoding-stream : {sizes nexts : List ℕ} {p : ℕ} {out : List ℤ} {states : List State} → Decoding p out states → Stream h d sizes nexts o
+      → Stream h d sizes nexts out
+  decoding-stream k s =
+      record { tables = s .tables; some = s .some; few = s .few; size = s .size; room = rw (length-decoding k) (s .room) }

@@ -1,11 +1,11 @@
 -- What the whole-stream decoder promises, by the three ways in which it returns. Assumes nothing.
-use mathlib.Core.Path.{_≡_, refl, sym, _∙_, ap}
-use mathlib.Core.List.{List, _++_}
 use Prim.Native.Nat.{ℕ, _*_, _≤_, _<_}
 use native.Mathlib.Omega.{arith}
-use borrow.Author.Tests.{lt-ltb, le-ltb}
+use mathlib.Core.Path.{_≡_, refl, sym, _∙_, ap}
+use mathlib.Core.List.{List, _++_}
 use lib.IntN.{ℤ}
 use lib.ListN.{length, drop}
+use borrow.Author.Tests.{lt-ltb, le-ltb}
 use Rattle.outcome.specs.Outcome.{result, onResult, outputAfter}
 use Rattle.outcome.proofs.Laws.{met, clear, then-result, then-refused, on-result, output-result}
 use Rattle.format.specs.Layout.{frames}
@@ -13,10 +13,10 @@ use Rattle.format.specs.Decode.{decoded}
 use Rattle.format.specs.Inspect.{Sound, inspected, decodeCall}
 use Rattle.format.specs.Answers.{numberOf, valuesOf, refusal, decodedOf, AsDecoded}
 use Rattle.format.proofs.Agreement.{length-decoded}
-use Rattle.decoder.specs.Loops.{startStates, loopOut}
-use Rattle.decoder.proofs.DecodeLoop.{loop-decodes, fresh}
 use Rattle.format.specs.declared.Header.{Header}
 use Rattle.format.specs.declared.Error.{Error}
+use Rattle.decoder.specs.Loops.{startStates, loopOut}
+use Rattle.decoder.proofs.DecodeLoop.{loop-decodes, fresh}
 use Rattle.format.specs.declared.Error.the-variants as E
 use Rattle.format.specs.declared.Decoded.the-variants as D
 

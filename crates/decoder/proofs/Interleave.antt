@@ -1,12 +1,13 @@
 -- Writing an interleaved output fragment by fragment, in file order, gives the output that is defined by index.
 -- Assumes nothing.
-use mathlib.Core.Path.{_≡_, refl, sym, _∙_, ap, subst}
-use mathlib.Core.Logic.{_≢_}
 use Prim.Native.Nat.{ℕ, zero, suc, _+_, _*_, _-_, _/_, _%_, _≤_, _<_, min}
 use native.Mathlib.Omega.{arith}
+use native.Mathlib.Numerals.{add-one}
 use native.Mathlib.Nat.{mul-le-mul-right, div-add-mod', mod-lt, le-div-iff-mul-le, div-mul-le-self, div-lt-iff-lt-mul}
 use native.Mathlib.Decide.{decLt, ℕ-discrete}
-use mathlib.Core.List.{List, _++_}
+use mathlib.Core.Path.{_≡_, refl, sym, _∙_, ap, subst}
+use mathlib.Core.Logic.{_≢_}
+use mathlib.Core.List.{List, [], _∷_, _++_}
 use lib.Arith.{digits-lt, digits-div, digits-mod}
 use lib.ListN.{length, getD, take, drop, set, length-append, length-drop, length-set, List·getD-append}
 use lib.Seq.{getD-take, getD-set-same, getD-set-other, getD-drop, getD-append-add, ext-getD}
@@ -48,6 +49,33 @@ module _ {A : Type 0} (d : A) (xs : List A) (first c ch : ℕ) where
       go (no e) ih =
           let k : w < n = omega arith in
           getD-set-other (spread d o xs first c ch n) ((first + n) * c + ch) ((first + w) * c + ch) (getD xs n d) d (apart w n hc k) ∙ ih k l
+
+-- two places are set in any order
+set-set : {A : Type 0} (l : List A) (i j : ℕ) (x y : A) → i ≢ j → set (set l i x) j y ≡ set (set l j y) i x
+set-set [] i j x y h = refl
+set-set (a ∷ l) zero zero x y h = absurd (h refl)
+set-set (a ∷ l) zero (suc j) x y h = refl
+set-set (a ∷ l) (suc i) zero x y h = refl
+set-set (a ∷ l) (suc i) (suc j) x y h = rw (set-set l i j x y (λ e. h (ap suc e)))
+
+-- a place that no sample goes to may be set before
+spread-set : {A : Type 0} (d : A) (o xs : List A) (first c ch n j : ℕ) (x : A) → ((w : ℕ) → w < n → (first + w) * c + ch ≢ j)
+    → set (spread d o xs first c ch n) j x ≡ spread d (set o j x) xs first c ch n
+unfolding spread
+spread-set d o xs first c ch zero j x h = refl
+spread-set d o xs first c ch (suc n) j x h =
+    set-set (spread d o xs first c ch n) ((first + n) * c + ch) j (getD xs n d) x (h n (omega arith))
+    ∙ rw (spread-set d o xs first c ch n j x (λ w l. h w (omega arith)))
+
+-- the samples of two channels, woven: one turn more
+pub woven-more : {A : Type 0} (d : A) (o xs ys : List A) (first w : ℕ) {l : List A} {x y : A}
+    → l ≡ spread d (spread d o xs first 2 0 w) ys first 2 1 w → x ≡ getD xs w d → y ≡ getD ys w d
+    → set (set l ((first + w) * 2) x) ((first + w) * 2 + 1) y
+    ≡ spread d (spread d o xs first 2 0 (w + 1)) ys first 2 1 (w + 1)
+unfolding spread
+woven-more d o xs ys first w {l} {x} {y} e ex ey =
+    let z : (first + w) * 2 + 0 ≡ (first + w) * 2 = omega arith in
+    rw (add-one w, e, ex, ey, z, spread-set d (spread d o xs first 2 0 w) ys first 2 1 w ((first + w) * 2) (getD xs w d) (λ k m. omega arith))
 
 -- only the samples that are put count
 pub spread-take : {A : Type 0} (d : A) (o xs : List A) (first c ch n m : ℕ) → n ≤ m → spread d o (take m xs) first c ch n ≡ spread d o xs first c ch n

@@ -1,4 +1,5 @@
 pub mod Interleave
 pub mod Turns
+pub mod InStep
 pub mod DecodeLoop
 pub mod Decoding

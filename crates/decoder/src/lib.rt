@@ -1,95 +1,268 @@
-// The decoder of whole streams: each fragment in file order, with one state for each channel.
+// The decoder of whole streams: each fragment in file order, with one state for each channel. The tables of the steps are made once
+// and lent down.
 use format::Decoded;
 use format::Error;
 use format::Header;
 use format::Inspected;
 use format::State;
+use format::Variant;
+use player::Two;
 ghost use mathlib.Core.Path.{_≡_};
-ghost use mathlib.Core.Bool.{true};
-ghost use Prim.Native.Nat.{_+_, _*_, _/_, _<_, _≤_};
+ghost use Prim.Native.Nat.{ℕ, _+_, _*_, _/_, _%_, _<_, _≤_};
 ghost use lib.IntN.{pos};
 ghost use lib.ListN.{length, take};
-ghost use Rattle.format.specs.Layout.{knownVersion, frames, count, streamLength};
+ghost use Rattle.format.specs.Layout.{frames, count, streamLength};
 ghost use Rattle.format.specs.Decode.{InRange};
 ghost use Rattle.format.specs.Answers.{AsDecoded};
-ghost use Rattle.decoder.specs.Loops.{spread, placeDecoded, startStates, loopOut};
+ghost use Rattle.lookup.specs.Lookup.{Lookup};
+ghost use Rattle.decoder.specs.Loops.{spread, putAt, placeDecoded, InStep, AllInRange, Stream, turnStates, turnOut, startStates, loopOut};
 
-// Internal: the first n samples of a fragment go to their channel's places, sample w to (first + w) * channels + channel.
-fn put_samples(
-    out: &mut [i16],
-    samples: [i16; 64],
-    first: usize,
-    channels: usize,
-    channel: usize,
-    n: usize,
-)
-    requires { ⌜ (n ≤ 64) × (channel < channels) × ((first + n) * channels ≤ length (now out)) ⌝ }
-    ensures { λ _. ⌜ now (out .exit) ≡ spread (pos 0) (now (out .entry)) samples first channels channel n ⌝ }
+// Internal: the first n samples of a fragment of one channel go to the places from `first` on.
+fn put_samples(out: &mut [i16], samples: &[i16; 64], first: usize, n: usize)
+    requires { ⌜ (n ≤ 64) × (first + n ≤ length (now out)) ⌝ }
+    ensures { λ _. ⌜ now (out .exit) ≡ spread (pos 0) (now (out .entry)) (now (samples .entry)) first 1 0 n ⌝ }
 {
     let mut w = 0;
     while w < n {
         let x = samples[w];
-        let j = (first + w) * channels + channel;
+        let j = first + w;
         out[j] = x;
         w += 1;
     }
 }
 
-// What decoding the fragment at a place gives: its samples at the front, and its channel's state after it.
-struct Placed {
-    samples: [i16; 64],
-    state: State,
+// Internal: those of a frame of two channels are woven, sample w of channel c to (first + w) * 2 + c.
+fn weave_samples(out: &mut [i16], samples: &[i16; 64], samples2: &[i16; 64], first: usize, n: usize)
+    requires { ⌜ (n ≤ 64) × ((first + n) * 2 ≤ length (now out)) ⌝ }
+    ensures { λ _. ⌜ now (out .exit)
+        ≡ spread (pos 0) (spread (pos 0) (now (out .entry)) (now (samples .entry)) first 2 0 n) (now (samples2 .entry)) first 2 1 n ⌝ }
+{
+    let mut w = 0;
+    while w < n {
+        let x = samples[w];
+        let y = samples2[w];
+        let j = (first + w) * 2;
+        out[j] = x;
+        out[j + 1] = y;
+        w += 1;
+    }
 }
 
-// Internal: the fragment at place `p` of the file order, decoded from its channel's state.
-fn decode_place(file: &[u8], h: Header, p: usize, state: State) -> Placed
-    requires { ⌜ (knownVersion (h .version) ≡ true) × (0 < h .channels) × (length (now file) ≡ streamLength h) × (p < frames h * h .channels) × InRange state ⌝ }
-    ensures { λ r. ⌜ (take (count h (p / h .channels)) (r .samples) ≡ placeDecoded h (now (file .entry)) p state .samples)
-        × (r .state ≡ placeDecoded h (now (file .entry)) p state .state) ⌝ }
+// Internal: the samples of the fragments at `p` and `p + 1`: the two channels of a frame, or two frames of one channel.
+fn put_two(out: &mut [i16], samples: &[i16; 64], samples2: &[i16; 64], h: Header, p: usize)
+    requires { ⌜ (0 < h .channels) × (h .channels ≤ 2) × (p % 2 ≡ 0) × (p + 1 < frames h * h .channels) × (h .samples * h .channels ≤ length (now out)) ⌝ }
+    ensures { λ _. ⌜ now (out .exit) ≡ putAt h (p + 1) (now (samples2 .entry)) (putAt h p (now (samples .entry)) (now (out .entry))) ⌝ }
+{
+    let whole = format::frame_samples(h.version);
+    if h.channels == 2 {
+        let f = p / 2;
+        let n = layout::count_at(h, f);
+        weave_samples(out, samples, samples2, f * whole, n);
+    } else {
+        let n = layout::count_at(h, p);
+        put_samples(out, samples, p * whole, n);
+        let next = p + 1;
+        let n2 = layout::count_at(h, next);
+        put_samples(out, samples2, next * whole, n2);
+    }
+}
+
+// Internal: the fragment at place `p` of the file order, decoded from its channel's state: its samples at the front, and the state
+// after it.
+fn decode_place(
+    file: &[u8],
+    h: Header,
+    sizes: &[u16],
+    nexts: &[u16],
+    p: usize,
+    state: State,
+    samples: &mut [i16; 64],
+) -> State
+    requires { ⌜ Lookup (h .version) (h .variant) (now sizes) (now nexts) × (0 < h .channels) × (length (now file) ≡ streamLength h)
+        × (p < frames h * h .channels) × InRange state × (length (now samples) ≡ 64) ⌝ }
+    ensures { λ r. ⌜ (take (count h (p / h .channels)) (now (samples .exit)) ≡ placeDecoded h (now (file .entry)) p state .samples)
+        × (r ≡ placeDecoded h (now (file .entry)) p state .state) ⌝ }
 {
     let variant = h.variant;
     let channels = h.channels as usize;
     let n = layout::count_at(h, p / channels);
     let fragment = layout::fragment_at(file, h, p);
-    let mut samples = [0i16; 64];
-    let next = fragment_core::decode_checked(
+    player::play(
         h.version,
         variant,
+        sizes,
+        nexts,
         state,
         fragment,
-        &mut samples[..n],
-    );
-    Placed {
+        n,
         samples,
-        state: next,
+    )
+}
+
+// Internal: the same of the fragments at `p` and `p + 1`, in step.
+fn decode_places(
+    file: &[u8],
+    h: Header,
+    sizes: &[u16],
+    nexts: &[u16],
+    p: usize,
+    states: Two,
+    samples: &mut [i16; 64],
+    others: &mut [i16; 64],
+) -> Two
+    requires { ⌜ Lookup (h .version) (h .variant) (now sizes) (now nexts) × (0 < h .channels) × (length (now file) ≡ streamLength h)
+        × (p + 1 < frames h * h .channels) × InStep h p × InRange (states .first) × InRange (states .second)
+        × (length (now samples) ≡ 64) × (length (now others) ≡ 64) ⌝ }
+    ensures { λ r. ⌜ (take (count h (p / h .channels)) (now (samples .exit)) ≡ placeDecoded h (now (file .entry)) p (states .first) .samples)
+        × (r .first ≡ placeDecoded h (now (file .entry)) p (states .first) .state)
+        × (take (count h ((p + 1) / h .channels)) (now (others .exit)) ≡ placeDecoded h (now (file .entry)) (p + 1) (states .second) .samples)
+        × (r .second ≡ placeDecoded h (now (file .entry)) (p + 1) (states .second) .state) ⌝ }
+{
+    let variant = h.variant;
+    let channels = h.channels as usize;
+    let n = layout::count_at(h, p / channels);
+    let fragment = layout::fragment_at(file, h, p);
+    let other = layout::fragment_at(file, h, p + 1);
+    player::play_two(
+        h.version,
+        variant,
+        sizes,
+        nexts,
+        states,
+        fragment,
+        other,
+        n,
+        samples,
+        others,
+    )
+}
+
+// Internal: the turn of the fragment at place `p` of one channel: its samples into the output, and the states after it.
+fn decode_one(
+    file: &[u8],
+    h: Header,
+    sizes: &[u16],
+    nexts: &[u16],
+    p: usize,
+    states: [State; 2],
+    out: &mut [i16],
+) -> [State; 2]
+    requires { ⌜ Stream h (now file) (now sizes) (now nexts) (now out) × (h .channels ≡ 1) × (p < frames h * h .channels) × AllInRange states ⌝ }
+    ensures { λ r. ⌜ (r ≡ turnStates h (now (file .entry)) p states)
+        × (now (out .exit) ≡ turnOut h (now (file .entry)) p states (now (out .entry))) ⌝ }
+{
+    let whole = format::frame_samples(h.version);
+    let n = layout::count_at(h, p);
+    let s = states[0];
+    let mut samples = [0i16; 64];
+    let next = decode_place(file, h, sizes, nexts, p, s, &mut samples);
+    put_samples(out, &samples, p * whole, n);
+    let mut after = states;
+    after[0] = next;
+    after
+}
+
+// Internal: the turns of the fragments at `p` and `p + 1`.
+fn decode_two(
+    file: &[u8],
+    h: Header,
+    sizes: &[u16],
+    nexts: &[u16],
+    p: usize,
+    states: [State; 2],
+    out: &mut [i16],
+) -> [State; 2]
+    requires { ⌜ Stream h (now file) (now sizes) (now nexts) (now out) × (p % 2 ≡ 0) × (p + 1 < frames h * h .channels) × InStep h p × AllInRange states ⌝ }
+    ensures { λ r. ⌜ (r ≡ turnStates h (now (file .entry)) (p + 1) (turnStates h (now (file .entry)) p states))
+        × (now (out .exit) ≡ turnOut h (now (file .entry)) (p + 1) (turnStates h (now (file .entry)) p states)
+        (turnOut h (now (file .entry)) p states (now (out .entry)))) ⌝ }
+{
+    let channels = h.channels as usize;
+    let channel = p % channels;
+    let channel2 = (p + 1) % channels;
+    let s = states[channel];
+    let s2 = states[channel2];
+    let two = Two {
+        first: s,
+        second: s2,
+    };
+    let mut samples = [0i16; 64];
+    let mut samples2 = [0i16; 64];
+    let next = decode_places(file, h, sizes, nexts, p, two, &mut samples, &mut samples2);
+    put_two(out, &samples, &samples2, h, p);
+    let first = next.first;
+    let second = next.second;
+    let mut after = states;
+    after[channel] = first;
+    after[channel2] = second;
+    after
+}
+
+// How many of the fragments are decoded two at a time: all but an odd last one where the two channels of a frame, or any two
+// fragments of version 3, do not wait for each other.
+fn paired(h: Header, fragments: usize) -> usize
+    ensures { λ r. ⌜ (r ≤ fragments) × (r % 2 ≡ 0) × (h .channels ≡ 2 → fragments < r + 2) × ((p : ℕ) → p % 2 ≡ 0 → p < r → InStep h p) ⌝ }
+{
+    if h.channels == 2 {
+        return fragments / 2 * 2;
     }
+    if 3 <= h.version {
+        return fragments / 2 * 2;
+    }
+    0
 }
 
 // Internal: the samples of every fragment, in file order, with one state for each channel.
-fn decode_fragments(file: &[u8], h: Header, out: &mut [i16])
-    requires { ⌜ (knownVersion (h .version) ≡ true) × (0 < h .channels) × (h .channels ≤ 2) × (length (now file) ≡ streamLength h) × (h .samples * h .channels ≤ length (now out)) ⌝ }
+fn decode_fragments(file: &[u8], h: Header, sizes: &[u16], nexts: &[u16], out: &mut [i16])
+    requires { ⌜ Stream h (now file) (now sizes) (now nexts) (now out) ⌝ }
     ensures { λ _. ⌜ now (out .exit) ≡ loopOut h (now (file .entry)) startStates (now (out .entry)) (frames h * h .channels) ⌝ }
 {
-    let channels = h.channels as usize;
-    let whole = format::frame_samples(h.version);
     let fragments = layout::fragment_count(h);
+    let pairs = paired(h, fragments);
     let zero = State {
         predictor: 0,
         index: 0,
     };
     let mut states = [zero; 2];
     let mut p = 0;
+    while p < pairs {
+        let next = decode_two(file, h, sizes, nexts, p, states, out);
+        states = next;
+        p += 2;
+    }
     while p < fragments {
-        let channel = p % channels;
-        let f = p / channels;
-        let n = layout::count_at(h, f);
-        let s = states[channel];
-        let r = decode_place(file, h, p, s);
-        let next = r.state;
-        let samples = r.samples;
-        states[channel] = next;
-        put_samples(out, samples, f * whole, channels, channel, n);
+        let next = decode_one(file, h, sizes, nexts, p, states, out);
+        states = next;
         p += 1;
+    }
+}
+
+// Internal: the same with the tables of the stream's variant and version.
+fn decode_stream(file: &[u8], h: Header, out: &mut [i16])
+    requires { ⌜ (0 < h .channels) × (h .channels ≤ 2) × (length (now file) ≡ streamLength h) × (h .samples * h .channels ≤ length (now out)) ⌝ }
+    ensures { λ _. ⌜ now (out .exit) ≡ loopOut h (now (file .entry)) startStates (now (out .entry)) (frames h * h .channels) ⌝ }
+{
+    let variant = h.variant;
+    match variant {
+        Variant::H => {
+            let sizes = lookup::tables::h_sizes();
+            let nexts = lookup::tables::h_nexts();
+            decode_fragments(file, h, &sizes, &nexts, out);
+        }
+        Variant::L => {
+            let sizes = lookup::tables::l_sizes();
+            let nexts = lookup::tables::l_nexts();
+            decode_fragments(file, h, &sizes, &nexts, out);
+        }
+        Variant::LPlus => if h.version == 1 {
+            let sizes = lookup::tables::legacy_l_plus_sizes();
+            let nexts = lookup::tables::l_nexts();
+            decode_fragments(file, h, &sizes, &nexts, out);
+        } else {
+            let sizes = lookup::tables::l_plus_sizes();
+            let nexts = lookup::tables::l_nexts();
+            decode_fragments(file, h, &sizes, &nexts, out);
+        }
     }
 }
 
@@ -104,7 +277,7 @@ pub fn decode(file: &[u8], out: &mut [i16]) -> Decoded
             if out.len() < needed {
                 return Decoded::Refused(Error::OutputTooShort(needed));
             }
-            decode_fragments(file, h, out);
+            decode_stream(file, h, out);
             Decoded::Filled(h)
         }
         Inspected::Refused(e) => Decoded::Refused(e),

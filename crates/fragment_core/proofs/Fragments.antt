@@ -21,7 +21,7 @@ use Rattle.fragment_core.proofs.Run.{after-same, samples-same}
 pub bits-held : {b : ℕ} (variant : Variant) → b ≡ bits variant → (0 < b) × (b ≤ 8)
 bits-held variant e = (omega (arith, e, bits-some variant), omega (arith, e, bits-few variant))
 
-frame-few : (b : Bool) → cond b 63 64 ≤ 64
+pub frame-few : (b : Bool) → cond b 63 64 ≤ 64
 frame-few true = omega arith
 frame-few false = omega arith
 
@@ -55,11 +55,15 @@ module _ (version : ℕ) (variant : Variant) (fragment : List ℕ) where
         ∙ samples-same version variant firstCodes (codesOf version variant fragment) (startState version s fragment) (volumeByte fragment) n
         (λ i l. codes-same i (omega arith))
 
+    pub run-after : {codes : List ℕ} → codes ≡ firstCodes → (start : State)
+        → after version variant codes start n ≡ after version variant (codesOf version variant fragment) start n
+    run-after ec start =
+        rw ec (after-same version variant firstCodes (codesOf version variant fragment) start n (λ i l. codes-same i (omega arith)))
+
     pub run-state : {codes : List ℕ} {t : State} → anew version ≡ false → codes ≡ firstCodes → t ≡ after version variant codes s n
         → t ≡ decodedFragment version variant s fragment n .state
     unfolding decodedFragment
-    run-state {codes} {t} e ec et =
-        rw e (rw ec at et ∙ after-same version variant firstCodes (codesOf version variant fragment) s n (λ i l. codes-same i (omega arith)))
+    run-state e ec et = rw e (et ∙ run-after ec s)
 
 -- from version 3 on the samples do not depend on the given state
 pub samples-anew : (version : ℕ) (variant : Variant) (s t : State) (fragment : List ℕ) (n : ℕ) → anew version ≡ true

@@ -7,14 +7,22 @@ ghost use lib.ListN.{length};
 ghost use lib.Signed.{mag};
 ghost use Rattle.signed.specs.Signed.{isNeg, withSign};
 ghost use Rattle.format.specs.Gain.{pregained, peak, volumeOf, ownVolume, normalised, outputGain};
+ghost use Rattle.gain.specs.Rounding.{rounding};
 
 // Internal: x * gain / 255 on the magnitude, the sign kept: cut toward zero where `half` is 0, to nearest where it is 127.
-fn scaled(x: i32, gain: u8, half: u32) -> i16
+pub fn scaled(x: i32, gain: u8, half: u32) -> i16
     requires { ⌜ (mag x ≤ 32767) × (half ≤ 127) ⌝ }
     ensures { λ r. ⌜ r ≡ withSign (isNeg x) ((natAbs x * gain + half) / 255) ⌝ }
 {
     let q = (signed::magnitude(x) * (gain as u32) + half) / 255;
     signed::sign_like(x, q) as i16
+}
+
+// What `scaled` adds before it divides, for the output gain of a version (output-scaled in proofs/Laws).
+pub fn rounding(version: u8) -> u32
+    ensures { λ r. ⌜ (r ≡ rounding version) × (r ≤ 127) ⌝ }
+{
+    if 3 <= version { 127 } else { 0 }
 }
 
 // Pre-gain: sample * gain / 255, cut toward zero.

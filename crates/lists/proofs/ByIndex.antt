@@ -34,6 +34,18 @@ module _ {ℓ} {A : Type ℓ} where
   tabulate-ext f g zero e = refl
   tabulate-ext f g (suc n) e = cc (tabulate-ext f g n (λ i h. e i (omega arith)), e n (omega arith))
 
+  -- the first of them
+  pub take-tabulate : (f : ℕ → A) (n m : ℕ) → m ≤ n → take m (tabulate f n) ≡ tabulate f m
+  unfolding tabulate
+  take-tabulate f zero m h = let e : m ≡ 0 = omega arith in rw e
+  take-tabulate f (suc n) m h = go (decLt m (suc n)) (take-tabulate f n m)
+    where
+      go : Dec (m < suc n) → (m ≤ n → take m (tabulate f n) ≡ tabulate f m) → take m (tabulate f n ++ (f n ∷ [])) ≡ tabulate f m
+      go (yes l) ih =
+          let k : m ≤ length (tabulate f n) = rw length-tabulate (omega arith) in
+          rw take-append-le (ih (omega arith))
+      go (no l) ih = let e : m ≡ suc n = omega arith in rw e (take-all (suc n) (tabulate f (suc n)) (le-of-eq (length-tabulate f (suc n))))
+
   -- a list is what stands at its indexes
   pub tabulate-getD : (l : List A) (d : A) → tabulate (λ i. getD l i d) (length l) ≡ l
   tabulate-getD l d =

@@ -1,15 +1,16 @@
 -- A rule of a table, of any type of entries, proved by one test that is computed over the whole table and carried to each index
 -- by one law; and a signed entry's range as facts on natural numbers. Assumes nothing.
-use mathlib.Core.Path.{_≡_, refl}
+use mathlib.Core.Path.{_≡_, refl, _∙_}
 use mathlib.Core.Bool.{Bool, true, false, _&&_}
 use mathlib.Core.List.{List, [], _∷_}
-use Prim.Native.Nat.{ℕ, zero, suc, _+_, _≤_, _<_}
+use Prim.Native.Nat.{ℕ, zero, suc, _+_, _*_, _/_, _%_, _≤_, _<_}
 use native.Mathlib.Nat.{le-of-suc-le-suc, not-suc-le-zero, add-zero, zero-add, add-suc, suc-add}
 use native.Mathlib.Omega.{arith}
-use lib.Dec.{T, leb, leb→le}
+use lib.Arith.{digits-div, digits-mod}
+use lib.Dec.{T, leb, leb→le, eqb→eq}
 use lib.IntN.{ℤ, pos, negsuc, natAbs}
 use lib.ListN.{length, getD}
-use Rattle.lists.specs.Tables.{every, everyAt, inside}
+use Rattle.lists.specs.Tables.{every, everyAt, inRow, inside}
 
 -- both tests pass
 pub left : (a b : Bool) → T (a && b) → T a
@@ -37,6 +38,14 @@ module _ {A : Type 0} where
   -- the same where the rule names the place
   pub at-place : (f : ℕ → A → Bool) (xs : List A) (d : A) → T (everyAt f 0 xs) → (k : ℕ) → k < length xs → T (f k (getD xs k d))
   at-place f xs d t k h = rw zero-add at (from f xs d 0 t k h)
+
+-- the same of a table of rows
+pub at-row : (w : ℕ) (rule : ℕ → ℕ → ℕ) (xs : List ℕ) → T (everyAt (inRow w rule) 0 xs) → (i l : ℕ) → l < w → i * w + l < length xs
+    → getD xs (i * w + l) 0 ≡ rule i l
+unfolding inRow
+at-row w rule xs t i l h k =
+    eqb→eq (getD xs (i * w + l) 0) (rule ((i * w + l) / w) ((i * w + l) % w)) (at-place (inRow w rule) xs 0 t (i * w + l) k)
+    ∙ rw (digits-div i h, digits-mod i h)
 
 -- ---- a ≤ z ≤ b
 

@@ -7,11 +7,11 @@ use Prim.Native.Nat.{ℕ, zero, suc, _+_, _-_, _*_, _/_, _<_, _≤_, _^_}
 use native.Mathlib.Omega.{arith}
 use lib.IntN.{ℤ, pos, negsuc, negℤ, natAbs, _+ℤ_, _-ℤ_, _*ℤ_, subℕ, +ℤ-idl, +ℤ-one, negℤ-sucℤ}
 use lib.Signed.{mag, ltZ, quotZ, natAbs-le}
-use borrow.Author.Tests.{lt-leb, le-leb, ltb-true, ltb-false, le-ltb}
+use borrow.Author.Tests.{lt-leb, le-leb, ltb-true, ltb-false, lt-ltb, le-ltb}
 use mir.Syntax.{w16, w32}
 use mir.Val.{SFits, toZ, ofZ}
 use mir.Facts.{toZ-ofZ, toZ-pos}
-use Rattle.signed.specs.Signed.{isNeg, withSign, onMagnitude, clamp16, clampTo}
+use Rattle.signed.specs.Signed.{isNeg, withSign, onMagnitude, clamp16, clampTo, depth}
 
 -- ---- a test against 0 settles the constructor
 pub neg-is : (z : ℤ) → ltZ z (pos 0) ≡ true → z ≡ negsuc (mag z)
@@ -209,3 +209,31 @@ above-out (negsuc n) e = cc
 pub between-in : (z : ℤ) → ltZ z (negsuc 32767) ≡ false → ltZ (pos 32767) z ≡ false → leb (mag z) 32767 ≡ true
 between-in (pos n) e d = le-leb n 32767 (ltb-false 32767 n d)
 between-in (negsuc n) e d = le-leb n 32767 (ltb-false 32767 n e)
+
+-- ---- the depth of a 16-bit number below 32767
+
+pub depth-is : (z : ℤ) → mag z ≤ 32767 → pos 32767 -ℤ z ≡ pos (depth z)
+unfolding depth
+depth-is (pos zero) h = refl
+depth-is (pos (suc n)) h = rw (le-ltb 32767 (suc n) h)
+depth-is (negsuc n) h = ap pos (omega arith)
+
+pub depth-le : (z : ℤ) → mag z ≤ 32767 → depth z ≤ 65535
+unfolding depth
+depth-le (pos n) h = omega arith
+depth-le (negsuc n) h = omega arith
+
+-- the number at a depth
+from-top : (d : ℕ) → pos 32767 -ℤ pos d ≡ cond (ltb 32767 d) (negsuc (d - 32768)) (pos (32767 - d))
+from-top zero = refl
+from-top (suc d) = refl
+
+pub at-depth-small : (d : ℕ) → d ≤ 65535 → mag (pos 32767 -ℤ pos d) ≤ 32767
+at-depth-small d h =
+    rw from-top
+    (cond-ind (ltb 32767 d) (negsuc (d - 32768)) (pos (32767 - d)) (λ z. mag z ≤ 32767) (λ t. omega arith) (λ t. omega arith))
+
+pub depth-back : (z : ℤ) → mag z ≤ 32767 → pos 32767 -ℤ pos (depth z) ≡ z
+unfolding depth
+depth-back (pos n) h = rw (from-top, le-ltb 32767 (32767 - n) (omega arith)) (ap pos (omega arith))
+depth-back (negsuc n) h = rw (from-top, lt-ltb 32767 (n + 32768) (omega arith)) (ap negsuc (omega arith))

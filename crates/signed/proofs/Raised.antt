@@ -1,11 +1,11 @@
 -- Numbers of 16 bits, raised to 0..65535: the order, the distance and the clamped sum as facts on ℕ, which omega reads. Assumes
 -- nothing.
 use mathlib.Core.Path.{_≡_, refl, ap}
-use mathlib.Core.Bool.{Bool, true, false, not, cond}
+use mathlib.Core.Bool.{Bool, true, false}
 use Prim.Native.Nat.{ℕ, zero, suc, _+_, _-_, _<_, _≤_, min}
 use native.Mathlib.Omega.{arith}
-use lib.Dec.{T, ltb, ltb→lt, nltb→le}
-use lib.IntN.{ℤ, pos, negsuc, negℤ, natAbs, _+ℤ_, _-ℤ_, subℕ}
+use lib.Dec.{ltb, ltb→lt, nltb→le}
+use lib.IntN.{ℤ, pos, negsuc, natAbs, _+ℤ_, _-ℤ_, subℕ}
 use lib.Signed.{mag, ltZ}
 use borrow.Author.Tests.{lt-ltb, le-ltb, ltb-true, ltb-false}
 use Rattle.signed.specs.Signed.{withSign, clamp16, raised}

@@ -33,6 +33,11 @@ unfoldable pub raised : ℤ → ℕ
 raised (pos n) = n + 32768
 raised (negsuc n) = 32767 - n
 
+-- how far a 16-bit number lies below 32767
+unfoldable pub depth : ℤ → ℕ
+depth (pos n) = 32767 - n
+depth (negsuc n) = n + 32768
+
 -- ---- 16-bit two's complement
 
 -- the signed number that 16 bits state

@@ -5,7 +5,7 @@ ghost use Prim.Native.Nat.{_+_, _*_, _<_, _≤_, _^_};
 ghost use lib.IntN.{pos, natAbs, _+ℤ_, _-ℤ_};
 ghost use lib.Signed.{mag};
 ghost use Rattle.digits.specs.Digits.{stored};
-ghost use Rattle.signed.specs.Signed.{isNeg, withSign, clamp16, clampTo, raised, ofTwos, toTwos};
+ghost use Rattle.signed.specs.Signed.{isNeg, withSign, clamp16, clampTo, raised, depth, ofTwos, toTwos};
 
 // The magnitude, also of the least number.
 pub fn magnitude(x: i32) -> u32
@@ -115,6 +115,22 @@ pub fn lower(u: u32) -> i32
     ensures { λ r. ⌜ (raised r ≡ u) × (mag r ≤ 32767) ⌝ }
 {
     u as i32 - 32768
+}
+
+// Internal: how far a 16-bit number lies below 32767.
+pub fn depth(x: i32) -> u32
+    requires { ⌜ mag x ≤ 32767 ⌝ }
+    ensures { λ r. ⌜ (r ≡ depth x) × (r ≤ 65535) ⌝ }
+{
+    (32767 - x) as u32
+}
+
+// Internal: the 16-bit number that lies so far below 32767.
+pub fn at_depth(depth: u32) -> i16
+    requires { ⌜ depth ≤ 65535 ⌝ }
+    ensures { λ r. ⌜ r ≡ pos 32767 -ℤ pos depth ⌝ }
+{
+    (32767 - (depth as i32)) as i16
 }
 
 // The sample that two bytes state, in two's complement.

@@ -1,7 +1,7 @@
 -- `decoder::decode` meets its contract. Assumes nothing.
-use mathlib.Core.Path.{sym}
 use native.Mathlib.Nat.{mul-le-mul-left}
 use native.Mathlib.Omega.{arith}
+use mathlib.Core.Path.{sym}
 use borrow.Author.Needs.{needs}
 use Rattle.format.proofs.Accepted.{accepted}
 use Rattle.format.proofs.Sizes.{channels-few}
@@ -33,12 +33,12 @@ returns : tie.Need-returns
 unfolding inspectedOf
 returns c = decode-short _ _ _ (rw (c .before .before .before .before .h .given .1) at (c .before .before .before .before .before .before .inspect .ensures)) (c .if1 .taken)
 
-decode-fragments-requires : tie.Need-decode-fragments-requires
+decode-stream-requires : tie.Need-decode-stream-requires
 unfolding inspectedOf
-decode-fragments-requires c κs =
+decode-stream-requires c κs =
     let a = accepted _ _ (sym (rw (c .before .before .before .before .before .h .given .1) at (c .before .before .before .before .before .before .before .inspect .ensures))) in
     let few = channels-few _ _ (a .channels) in
-    (a .version, few .0, few .1, a .size, c .before .if1 .left)
+    (few .0, few .1, a .size, c .before .if1 .left)
 
 enum-known-e : tie.Need-enum-known-e
 enum-known-e c = search needs
@@ -51,7 +51,7 @@ unfolding inspectedOf
 returns-2 c =
     let q = rw (c .before .before .before .before .before .before .before .h .given .1) at (c .before .before .before .before .before .before .before .before .before .inspect .ensures) in
     let few = channels-few _ _ (accepted _ _ (sym q) .channels) in
-    decode-filled _ _ _ q (c .before .before .before .if1 .left) (few .0) (few .1) _ (c .before .decode-fragments .ensures)
+    decode-filled _ _ _ q (c .before .before .before .if1 .left) (few .0) (few .1) _ (c .before .decode-stream .ensures)
 
 returns-3 : tie.Need-returns-3
 unfolding inspectedOf
@@ -67,7 +67,7 @@ decode-spec =
     cast-needed-2
     mul-needed
     returns
-    decode-fragments-requires
+    decode-stream-requires
     enum-known-e
     same-length
     returns-2

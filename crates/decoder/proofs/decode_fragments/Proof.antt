@@ -1,85 +1,86 @@
 -- `decoder::decode_fragments` meets its contract. Assumes nothing.
-use mathlib.Core.Path.{_≡_}
-use Prim.Native.Nat.{_-_, _*_, _≤_}
-use native.Mathlib.Nat.{mod-lt}
+use Prim.Native.Nat.{_-_, _*_, _%_, _≤_, _<_}
 use native.Mathlib.Omega.{arith}
+use mathlib.Core.List.{List}
+use mathlib.Core.Path.{_≡_}
+use lib.IntN.{ℤ}
 use borrow.Author.Needs.{needs}
 use Rattle.format.specs.Layout.{frames}
-use Rattle.decoder.proofs.DecodeLoop.{Decoding, decoding-none, decoding-range, decoding-more, length-decoding}
-use Rattle.layout.proofs.Places.{frame-of, frame-room}
+use Rattle.decoder.proofs.DecodeLoop.{Decoding, decoding-none, decoding-more, decoding-two, decoding-stream, length-decoding}
+use Rattle.decoder.proofs.InStep.{last-odd}
 use Rattle.decoder.proofs.decode_fragments.Statement.{statement}
 use Rattle.decoder.proofs.decode_fragments.Tie as tie
 
 abbrev Inv-loop : tie.InvT-loop
-Inv-loop file h out₀ channels whole fragments states₀ p₀ out states p = (p ≤ fragments) × Decoding h file out₀ p out states
+Inv-loop file h sizes nexts out₀ fragments pairs states₀ p₀ out states p = (p ≤ pairs) × (p % 2 ≡ 0) × Decoding h file out₀ p out states
 
 abbrev μ-loop : tie.MeasureT-loop
-μ-loop file h out₀ channels whole fragments states₀ p₀ out states p = fragments - p
+μ-loop file h sizes nexts out₀ fragments pairs states₀ p₀ out states p = pairs - p
 
-cast-channels : tie.Need-cast-channels Inv-loop μ-loop
-cast-channels c = search needs
+abbrev Inv-loop2 : tie.InvT-loop2
+Inv-loop2 file h sizes nexts out₀ fragments pairs states₀ p₀ out states p = (pairs ≤ p) × (p ≤ fragments) × ((o : List ℤ) → Decoding h file o p₀ out₀ states₀ → Decoding h file o p out states)
 
-frame-samples-requires : tie.Need-frame-samples-requires Inv-loop μ-loop
-frame-samples-requires c κs = search needs
+abbrev μ-loop2 : tie.MeasureT-loop2
+μ-loop2 file h sizes nexts out₀ fragments pairs states₀ p₀ out states p = fragments - p
 
-fragment-count-requires : tie.Need-fragment-count-requires Inv-loop μ-loop
+fragment-count-requires : tie.Need-fragment-count-requires Inv-loop μ-loop Inv-loop2 μ-loop2
 fragment-count-requires c κs = search needs
 
-loop-holds : tie.Need-loop-holds Inv-loop μ-loop
-loop-holds c = (search needs, decoding-none _ _ _)
+paired-requires : tie.Need-paired-requires Inv-loop μ-loop Inv-loop2 μ-loop2
+paired-requires c κs = search needs
 
-rem-channel : tie.Need-rem-channel Inv-loop μ-loop
-rem-channel c = search needs
+loop-holds : tie.Need-loop-holds Inv-loop μ-loop Inv-loop2 μ-loop2
+loop-holds c = (omega arith, omega arith, decoding-none _ _ _)
 
-div-f : tie.Need-div-f Inv-loop μ-loop
-div-f c = search needs
+decode-two-requires : tie.Need-decode-two-requires Inv-loop μ-loop Inv-loop2 μ-loop2
+decode-two-requires c κs =
+    let l = c .before .before .loop in
+    let q = c .before .before .before .paired .ensures in
+    let f = c .before .before .before .before .fragment-count .ensures .0 in
+    (decoding-stream _ _ _ (l .inv .2) (c .before .before .before .before .before .before .before .before .pre), l .inv .1, omega (arith, q .0, q .1, f, l .inv .1, c .before .loop-test .taken), q .3 (l .p) (l .inv .1) (c .before .loop-test .taken), l .inv .2 .range)
 
-count-at-requires : tie.Need-count-at-requires Inv-loop μ-loop
-count-at-requires c κs = search needs
+add-p : tie.Need-add-p Inv-loop μ-loop Inv-loop2 μ-loop2
+add-p c = omega (arith, c .before .before .before .before .before .paired .ensures .0, c .before .before .before .before .before .before .fragment-count .ensures, c .before .before .before .loop-test .taken)
 
-mul-s : tie.Need-mul-s Inv-loop μ-loop
-mul-s c = omega (arith, mod-lt (c .before .before .loop .p) (c .before .before .before .before .before .before .before .pre .1), c .before .before .before .before .before .before .before .pre .2)
+loop-less : tie.Need-loop-less Inv-loop μ-loop Inv-loop2 μ-loop2
+loop-less c = omega (arith, c .before .before .before .before .before .paired .ensures .0, c .before .before .before .loop-test .taken)
 
-array-copy-out-s : tie.Need-array-copy-out-s Inv-loop μ-loop
-array-copy-out-s c = omega (arith, mod-lt (c .before .before .loop .p) (c .before .before .before .before .before .before .before .pre .1), c .before .before .before .before .before .before .before .pre .2)
+loop-again : tie.Need-loop-again Inv-loop μ-loop Inv-loop2 μ-loop2
+loop-again c =
+    let q = c .before .before .before .before .before .paired .ensures in
+    (omega (arith, q .1, c .before .before .before .before .loop .inv .1, c .before .before .before .loop-test .taken), omega (arith, c .before .before .before .before .loop .inv .1), decoding-two _ _ _ (c .before .before .before .before .loop .inv .2) (c .before .decode-two .ensures .0) (c .before .decode-two .ensures .1))
 
-decode-place-requires : tie.Need-decode-place-requires Inv-loop μ-loop
-decode-place-requires c κs =
-    let k = c .before .before .before .before .before .before .before .before .pre in
-    (k .0, k .1, k .3, omega (arith, c .before .before .loop-test .taken, c .before .before .before .before .fragment-count .ensures .0), decoding-range _ _ _ _ (k .1) (k .2) (c .before .before .before .loop .inv .1))
+loop2-holds : tie.Need-loop2-holds Inv-loop μ-loop Inv-loop2 μ-loop2
+loop2-holds c = (omega (arith, c .loop-test .left), omega (arith, c .before .before .paired .ensures .0, c .before .loop .inv .0), λ o k. k)
 
-mul-states : tie.Need-mul-states Inv-loop μ-loop
-mul-states c = omega (arith, mod-lt (c .before .before .before .before .before .before .loop .p) (c .before .before .before .before .before .before .before .before .before .before .before .pre .1), c .before .before .before .before .before .before .before .before .before .before .before .pre .2)
+decode-one-requires : tie.Need-decode-one-requires Inv-loop μ-loop Inv-loop2 μ-loop2
+decode-one-requires c κs =
+    let k = c .before .before .loop2 .inv .2 _ (c .before .before .before .before .loop .inv .2) in
+    let l : c .before .before .loop2 .p < c .before .before .before .before .before .before .fragment-count .result = c .before .loop2-test .taken in
+    let q = c .before .before .before .before .before .paired .ensures in (
+      decoding-stream _ _ _ k (c .before .before .before .before .before .before .before .before .before .before .pre),
+      last-odd (c .before .before .before .before .before .before .before .before .before .before .args .h) (c .before .before .before .before .before .before .before .before .before .before .pre .some) (c .before .before .before .before .before .before .before .before .before .before .pre .few) (c .before .before .before .before .before .before .fragment-count .ensures .0) (q .1) (q .2) (c .before .before .loop2 .inv .0) l,
+      omega (arith, c .before .before .before .before .before .before .fragment-count .ensures .0),
+      k .range,
+    )
 
-array-set-from-states : tie.Need-array-set-from-states Inv-loop μ-loop
-array-set-from-states c = omega (arith, mod-lt (c .before .before .before .before .before .before .loop .p) (c .before .before .before .before .before .before .before .before .before .before .before .pre .1), c .before .before .before .before .before .before .before .before .before .before .before .pre .2)
+add-p-2 : tie.Need-add-p-2 Inv-loop μ-loop Inv-loop2 μ-loop2
+add-p-2 c = omega (arith, c .before .before .before .before .before .before .before .before .fragment-count .ensures, c .before .before .before .loop2-test .taken)
 
-mul-put-samples : tie.Need-mul-put-samples Inv-loop μ-loop
-mul-put-samples c =
-    let room = frame-room (c .before .before .before .before .before .before .before .before .before .before .before .before .args .h) _ _ (frame-of (c .before .before .before .before .before .before .before .loop .p) (frames (c .before .before .before .before .before .before .before .before .before .before .before .before .args .h)) (c .before .before .before .before .before .before .before .before .before .before .before .before .args .h .channels) (c .before .before .before .before .before .before .before .before .before .before .before .before .pre .1) (omega (arith, c .before .before .before .before .before .before .loop-test .taken, c .before .before .before .before .before .before .before .before .fragment-count .ensures .0))) (c .before .before .before .before .before .before .before .before .before .before .before .before .pre .4) in
-    rw (c .before .before .before .before .before .before .before .before .before .frame-samples .ensures .0) (omega (arith, room .start, c .before .before .before .before .before .before .before .before .before .before .struct-known .given))
+loop2-less : tie.Need-loop2-less Inv-loop μ-loop Inv-loop2 μ-loop2
+loop2-less c = omega (arith, c .before .before .before .loop2-test .taken)
 
-put-samples-requires : tie.Need-put-samples-requires Inv-loop μ-loop
-put-samples-requires c κs =
-    let room = frame-room (c .before .before .before .before .before .before .before .before .before .before .before .before .args .h) _ _ (frame-of (c .before .before .before .before .before .before .before .loop .p) (frames (c .before .before .before .before .before .before .before .before .before .before .before .before .args .h)) (c .before .before .before .before .before .before .before .before .before .before .before .before .args .h .channels) (c .before .before .before .before .before .before .before .before .before .before .before .before .pre .1) (omega (arith, c .before .before .before .before .before .before .loop-test .taken, c .before .before .before .before .before .before .before .before .fragment-count .ensures .0))) (c .before .before .before .before .before .before .before .before .before .before .before .before .pre .4) in
-    (c .before .before .before .before .before .count-at .ensures .1, mod-lt (c .before .before .before .before .before .before .before .loop .p) (c .before .before .before .before .before .before .before .before .before .before .before .before .pre .1), rw (c .before .before .before .before .before .before .before .before .before .frame-samples .ensures .0, c .before .before .before .before .before .count-at .ensures .0, length-decoding _ _ _ (c .before .before .before .before .before .before .before .loop .inv .1)) (room .within))
+loop2-again : tie.Need-loop2-again Inv-loop μ-loop Inv-loop2 μ-loop2
+loop2-again c = (omega (arith, c .before .before .before .before .loop2 .inv .0), omega (arith, c .before .before .before .loop2-test .taken), λ o k. decoding-more _ _ _ (c .before .before .before .before .loop2 .inv .2 o k) (c .before .decode-one .ensures .0) (c .before .decode-one .ensures .1))
 
-add-p : tie.Need-add-p Inv-loop μ-loop
-add-p c = search needs
+same-length : tie.Need-same-length Inv-loop μ-loop Inv-loop2 μ-loop2
+same-length c = length-decoding _ _ _ (c .before .loop2 .inv .2 _ (c .before .before .before .loop .inv .2))
 
-loop-less : tie.Need-loop-less Inv-loop μ-loop
-loop-less c = search needs
-
-loop-again : tie.Need-loop-again Inv-loop μ-loop
-loop-again c = (omega (arith, c .before .before .before .before .before .before .before .before .loop-test .taken), decoding-more _ _ _ _ _ _ _ _ _ (c .before .before .before .before .before .before .before .before .before .loop .inv .1) (c .before .before .before .before .before .before .before .before .before .before .before .frame-samples .ensures .0) (c .before .before .before .before .before .before .before .count-at .ensures .0) (c .before .before .before .before .before .decode-place .ensures .0) (c .before .before .before .before .before .decode-place .ensures .1) (c .before .put-samples .ensures))
-
-same-length : tie.Need-same-length Inv-loop μ-loop
-same-length c = length-decoding _ _ _ (c .before .loop .inv .1)
-
-returns : tie.Need-returns Inv-loop μ-loop
+returns : tie.Need-returns Inv-loop μ-loop Inv-loop2 μ-loop2
 returns c =
-    let e : c .before .loop .p ≡ frames (c .before .before .before .before .before .before .args .h) * c .before .before .before .before .before .before .args .h .channels = omega (arith, c .before .loop .inv .0, c .before .before .fragment-count .ensures .0) in
-    rw (← e) (c .before .loop .inv .1 .out-is)
+    let h = c .before .before .before .before .before .before .before .before .before .args .h in
+    let e : c .before .loop2 .p ≡ frames h * h .channels = omega (arith, c .before .loop2 .inv .1, c .before .before .before .before .before .fragment-count .ensures .0, c .loop2-test .left) in
+    rw (← e) (c .before .loop2 .inv .2 _ (c .before .before .before .loop .inv .2) .out-is)
 
 pub decode-fragments-spec : {M : Type 1} → statement M
 decode-fragments-spec =
@@ -87,22 +88,19 @@ decode-fragments-spec =
     (tie.spec
     Inv-loop
     μ-loop
-    cast-channels
-    frame-samples-requires
+    Inv-loop2
+    μ-loop2
     fragment-count-requires
+    paired-requires
     loop-holds
-    rem-channel
-    div-f
-    count-at-requires
-    mul-s
-    array-copy-out-s
-    decode-place-requires
-    mul-states
-    array-set-from-states
-    mul-put-samples
-    put-samples-requires
+    decode-two-requires
     add-p
     loop-less
     loop-again
+    loop2-holds
+    decode-one-requires
+    add-p-2
+    loop2-less
+    loop2-again
     same-length
     returns)

@@ -1,0 +1,78 @@
+-- `player::apply_volume` meets its contract. Assumes nothing.
+use Prim.Native.Nat.{_-_, _≤_}
+use native.Mathlib.Omega.{arith}
+use mathlib.Core.Path.{_≡_, _∙_}
+use lib.ListN.{getD}
+use lib.IntN.{pos}
+use mir.Facts.{toZ-ofZ}
+use borrow.Author.Needs.{needs}
+use Rattle.signed.proofs.Laws.{back16}
+use Rattle.gain.proofs.Laws.{output-scaled}
+use Rattle.format.specs.Gain.{outputGain}
+use Rattle.player.proofs.Running.{Louder, louder-none, louder-more, louder-all}
+use Rattle.player.proofs.apply_volume.Statement.{statement}
+use Rattle.player.proofs.apply_volume.Tie as tie
+
+abbrev Inv-loop : tie.InvT-loop
+Inv-loop version predictors volume samples₀ half i₀ samples i = (i ≤ 64) × Louder version volume predictors i samples
+
+abbrev μ-loop : tie.MeasureT-loop
+μ-loop version predictors volume samples₀ half i₀ samples i = 64 - i
+
+rounding-requires : tie.Need-rounding-requires Inv-loop μ-loop
+rounding-requires c κs = search needs
+
+loop-holds : tie.Need-loop-holds Inv-loop μ-loop
+loop-holds c = (omega arith, louder-none _ _ _ (c .before .pre))
+
+mul-scaled : tie.Need-mul-scaled Inv-loop μ-loop
+mul-scaled c = search needs
+
+element-copy-out-scaled : tie.Need-element-copy-out-scaled Inv-loop μ-loop
+element-copy-out-scaled c = search needs
+
+cast-scaled : tie.Need-cast-scaled Inv-loop μ-loop
+cast-scaled c = rw (back16 _ (c .scaled-arg .given)) (record { sfits = omega (arith, c .scaled-arg .given) })
+
+scaled-requires : tie.Need-scaled-requires Inv-loop μ-loop
+scaled-requires c κs = (rw (toZ-ofZ (cast-scaled c), back16 _ (c .scaled-arg .given)) (omega (arith, c .scaled-arg .given)), c .before .before .before .rounding .ensures .1)
+
+mul-t14 : tie.Need-mul-t14 Inv-loop μ-loop
+mul-t14 c = search needs
+
+element-set-from-samples : tie.Need-element-set-from-samples Inv-loop μ-loop
+element-set-from-samples c = omega arith
+
+add-i : tie.Need-add-i Inv-loop μ-loop
+add-i c = omega arith
+
+loop-less : tie.Need-loop-less Inv-loop μ-loop
+loop-less c = omega arith
+
+loop-again : tie.Need-loop-again Inv-loop μ-loop
+loop-again c =
+    let x : c .scaled .result ≡ outputGain (c .before .before .before .before .before .args .version) (c .before .before .before .before .before .args .volume) (getD (c .before .before .before .before .before .args .predictors .now) (c .before .before .before .loop .i) (pos 0)) =
+    c .scaled .ensures ∙ rw (toZ-ofZ (cast-scaled (c .before)), back16 _ (c .before .scaled-arg .given), c .before .before .before .before .rounding .ensures .0) (output-scaled (c .before .before .before .before .before .args .version) (c .before .before .before .before .before .args .volume) _) in
+    (omega arith, louder-more _ _ _ (c .before .before .before .loop .inv .1) (omega arith) (back16 (c .scaled .result) (c .scaled .ok) ∙ x))
+
+returns : tie.Need-returns Inv-loop μ-loop
+returns c = louder-all _ _ _ (c .before .loop .inv .1) (omega arith)
+
+pub apply-volume-spec : {M : Type 1} → statement M
+apply-volume-spec =
+    tie.close
+    (tie.spec
+    Inv-loop
+    μ-loop
+    rounding-requires
+    loop-holds
+    mul-scaled
+    element-copy-out-scaled
+    cast-scaled
+    scaled-requires
+    mul-t14
+    element-set-from-samples
+    add-i
+    loop-less
+    loop-again
+    returns)

@@ -1,0 +1,293 @@
+// Decoding a fragment by lent tables, for whole streams: its codes are unpacked, the predictors of all codes found, then the output
+// gain applied to all, so that each loop is small and has no branch.
+use format::State;
+use format::Variant;
+use lookup::Point;
+ghost use mathlib.Core.Path.{_≡_};
+ghost use mathlib.Core.Bool.{cond};
+ghost use Prim.Native.Nat.{ℕ, _+_, _<_, _≤_, _^_};
+ghost use lib.IntN.{pos, _-ℤ_};
+ghost use lib.ListN.{length, getD, set, take};
+ghost use Rattle.lists.specs.Lists.{tabulate};
+ghost use Rattle.digits.specs.Digits.{field, unpacked};
+ghost use Rattle.format.specs.Layout.{anew, bits, payload, payloadBytes, fragmentSize, frameSamples};
+ghost use Rattle.format.specs.Gain.{outputGain};
+ghost use Rattle.format.specs.Decode.{startState, after, decodedFragment, InRange};
+ghost use Rattle.lookup.specs.Lookup.{Lookup, looked};
+ghost use Rattle.player.specs.Play.{predictorAt};
+
+// Internal: codes of 4 bits, two in a byte.
+fn unpack_fours(payload: &[u8], codes: &mut [u8; 64])
+    requires { ⌜ (length (now payload) ≡ 32) × (length (now codes) ≡ 64) ⌝ }
+    ensures { λ _. ⌜ now (codes .exit) ≡ unpacked 4 64 (now (payload .entry)) ⌝ }
+{
+    let mut i = 0;
+    while i < 32 {
+        let b = payload[i];
+        codes[2 * i] = b % 16;
+        codes[2 * i + 1] = b / 16;
+        i += 1;
+    }
+}
+
+// Internal: three bytes as a number.
+fn word(payload: &[u8], at: usize) -> u32
+    requires { ⌜ at + 3 ≤ length (now payload) ⌝ }
+    ensures { λ r. ⌜ r ≡ field 3 at (now (payload .entry)) ⌝ }
+{
+    digits::le16(payload, at) + 65536 * (payload[at + 2] as u32)
+}
+
+// Internal: codes of 3 bits, eight in three bytes.
+fn unpack_threes(payload: &[u8], codes: &mut [u8; 64])
+    requires { ⌜ (length (now payload) ≡ 24) × (length (now codes) ≡ 64) ⌝ }
+    ensures { λ _. ⌜ now (codes .exit) ≡ unpacked 3 64 (now (payload .entry)) ⌝ }
+{
+    let mut i = 0;
+    while i < 8 {
+        let mut w = word(payload, 3 * i);
+        let mut j = 0;
+        while j < 8 {
+            codes[8 * i + j] = (w % 8) as u8;
+            w = w / 8;
+            j += 1;
+        }
+        i += 1;
+    }
+}
+
+// Internal: the sixty-four codes of a payload.
+fn unpack(variant: Variant, payload: &[u8], codes: &mut [u8; 64])
+    requires { ⌜ (length (now payload) ≡ payloadBytes variant) × (length (now codes) ≡ 64) ⌝ }
+    ensures { λ _. ⌜ now (codes .exit) ≡ unpacked (bits variant) 64 (now (payload .entry)) ⌝ }
+{
+    if let Variant::H = variant {
+        unpack_fours(payload, codes);
+    } else {
+        unpack_threes(payload, codes);
+    }
+}
+
+// Internal: one code more: the state after it, and its predictor at place i.
+fn turn(
+    s: Point,
+    code: u8,
+    w: u8,
+    sizes: &[u16],
+    nexts: &[u16],
+    i: usize,
+    predictors: &mut [i16; 64],
+) -> Point
+    requires { ⌜ (s .depth ≤ 65535) × (code < w + w) × (s .at + w ≤ length (now sizes)) × (length (now nexts) ≡ length (now sizes)) × (i < 64) ⌝ }
+    ensures { λ r. ⌜ (r ≡ looked w (now (sizes .entry)) (now (nexts .entry)) s code)
+        × (now (predictors .exit) ≡ set (now (predictors .entry)) i (pos 32767 -ℤ pos (r .depth))) ⌝ }
+{
+    let next = lookup::step(s, code, w, sizes, nexts);
+    let depth = next.depth;
+    predictors[i] = signed::at_depth(depth);
+    next
+}
+
+// Internal: the predictors after each of the first n codes, and the state after them.
+fn run(
+    version: u8,
+    variant: Variant,
+    sizes: &[u16],
+    nexts: &[u16],
+    state: State,
+    codes: &[u8; 64],
+    n: usize,
+    predictors: &mut [i16; 64],
+) -> State
+    requires { ⌜ Lookup version variant (now sizes) (now nexts) × InRange state × ((i : ℕ) → getD (now codes) i 0 < 2 ^ bits variant)
+        × (n ≤ 64) × (length (now predictors) ≡ 64) ⌝ }
+    ensures { λ r. ⌜ (r ≡ after version variant (now (codes .entry)) state n)
+        × (take n (now (predictors .exit)) ≡ tabulate (predictorAt version variant (now (codes .entry)) state) n) ⌝ }
+{
+    let w = lookup::row_size(variant);
+    let mut s = lookup::keep(variant, state);
+    let mut i = 0;
+    while i < n {
+        s = turn(s, codes[i], w, sizes, nexts, i, predictors);
+        i += 1;
+    }
+    lookup::state_of(variant, s)
+}
+
+// The states of two fragments.
+pub struct Two {
+    pub first: State,
+    pub second: State,
+}
+
+// Internal: the same for two fragments in step, so that neither waits for the other.
+fn run_two(
+    version: u8,
+    variant: Variant,
+    sizes: &[u16],
+    nexts: &[u16],
+    states: Two,
+    codes: &[u8; 64],
+    others: &[u8; 64],
+    n: usize,
+    predictors: &mut [i16; 64],
+    seconds: &mut [i16; 64],
+) -> Two
+    requires { ⌜ Lookup version variant (now sizes) (now nexts) × InRange (states .first) × InRange (states .second)
+        × ((i : ℕ) → getD (now codes) i 0 < 2 ^ bits variant) × ((i : ℕ) → getD (now others) i 0 < 2 ^ bits variant)
+        × (n ≤ 64) × (length (now predictors) ≡ 64) × (length (now seconds) ≡ 64) ⌝ }
+    ensures { λ r. ⌜ (r .first ≡ after version variant (now (codes .entry)) (states .first) n)
+        × (take n (now (predictors .exit)) ≡ tabulate (predictorAt version variant (now (codes .entry)) (states .first)) n)
+        × (r .second ≡ after version variant (now (others .entry)) (states .second) n)
+        × (take n (now (seconds .exit)) ≡ tabulate (predictorAt version variant (now (others .entry)) (states .second)) n) ⌝ }
+{
+    let w = lookup::row_size(variant);
+    let first = states.first;
+    let second = states.second;
+    let mut s = lookup::keep(variant, first);
+    let mut t = lookup::keep(variant, second);
+    let mut i = 0;
+    while i < n {
+        s = turn(s, codes[i], w, sizes, nexts, i, predictors);
+        t = turn(t, others[i], w, sizes, nexts, i, seconds);
+        i += 1;
+    }
+    Two {
+        first: lookup::state_of(variant, s),
+        second: lookup::state_of(variant, t),
+    }
+}
+
+// Internal: the output gain of a version, for every predictor.
+fn apply_volume(version: u8, predictors: &[i16; 64], volume: u8, samples: &mut [i16; 64])
+    requires { ⌜ length (now samples) ≡ 64 ⌝ }
+    ensures { λ _. ⌜ now (samples .exit) ≡ tabulate (λ i. outputGain version volume (getD (now (predictors .entry)) i (pos 0))) 64 ⌝ }
+{
+    let half = gain::rounding(version);
+    let mut i = 0;
+    while i < 64 {
+        samples[i] = gain::scaled(predictors[i] as i32, volume, half);
+        i += 1;
+    }
+}
+
+// Internal: the state before a fragment's first code.
+fn state_before(version: u8, state: State, fragment: &[u8]) -> State
+    requires { ⌜ 2 ≤ length (now fragment) ⌝ }
+    ensures { λ r. ⌜ r ≡ startState version state (now (fragment .entry)) ⌝ }
+{
+    if 3 <= version {
+        return State::fragment_start(fragment[1]);
+    }
+    state
+}
+
+// The state after a fragment: from version 3 on the given one.
+fn state_after(version: u8, state: State, end: State) -> State
+    ensures { λ r. ⌜ r ≡ cond (anew version) state end ⌝ }
+{
+    if 3 <= version {
+        return state;
+    }
+    end
+}
+
+// Internal: the sixty-four codes of a fragment.
+fn unpack_fragment(version: u8, variant: Variant, fragment: &[u8], codes: &mut [u8; 64])
+    requires { ⌜ (length (now fragment) ≡ fragmentSize version variant) × (length (now codes) ≡ 64) ⌝ }
+    ensures { λ _. ⌜ now (codes .exit) ≡ unpacked (bits variant) 64 (payload version (now (fragment .entry))) ⌝ }
+{
+    let from = layout::prefix_size(version);
+    unpack(variant, &fragment[from..], codes);
+}
+
+// Internal: the first n samples of a fragment, from a channel's state, and the state after it.
+pub fn play(
+    version: u8,
+    variant: Variant,
+    sizes: &[u16],
+    nexts: &[u16],
+    state: State,
+    fragment: &[u8],
+    n: usize,
+    samples: &mut [i16; 64],
+) -> State
+    requires { ⌜ Lookup version variant (now sizes) (now nexts) × InRange state × (length (now fragment) ≡ fragmentSize version variant)
+        × (n ≤ frameSamples version) × (length (now samples) ≡ 64) ⌝ }
+    ensures { λ r. ⌜ (r ≡ decodedFragment version variant state (now (fragment .entry)) n .state)
+        × (take n (now (samples .exit)) ≡ decodedFragment version variant state (now (fragment .entry)) n .samples) ⌝ }
+{
+    let start = state_before(version, state, fragment);
+    let mut codes = [0u8; 64];
+    unpack_fragment(version, variant, fragment, &mut codes);
+    let mut predictors = [0i16; 64];
+    let end = run(
+        version,
+        variant,
+        sizes,
+        nexts,
+        start,
+        &codes,
+        n,
+        &mut predictors,
+    );
+    apply_volume(version, &predictors, fragment[0], samples);
+    state_after(version, state, end)
+}
+
+// Internal: the same of two fragments in step.
+pub fn play_two(
+    version: u8,
+    variant: Variant,
+    sizes: &[u16],
+    nexts: &[u16],
+    states: Two,
+    fragment: &[u8],
+    other: &[u8],
+    n: usize,
+    samples: &mut [i16; 64],
+    others: &mut [i16; 64],
+) -> Two
+    requires { ⌜ Lookup version variant (now sizes) (now nexts) × InRange (states .first) × InRange (states .second)
+        × (length (now fragment) ≡ fragmentSize version variant) × (length (now other) ≡ fragmentSize version variant)
+        × (n ≤ frameSamples version) × (length (now samples) ≡ 64) × (length (now others) ≡ 64) ⌝ }
+    ensures { λ r. ⌜ (r .first ≡ decodedFragment version variant (states .first) (now (fragment .entry)) n .state)
+        × (take n (now (samples .exit)) ≡ decodedFragment version variant (states .first) (now (fragment .entry)) n .samples)
+        × (r .second ≡ decodedFragment version variant (states .second) (now (other .entry)) n .state)
+        × (take n (now (others .exit)) ≡ decodedFragment version variant (states .second) (now (other .entry)) n .samples) ⌝ }
+{
+    let first = states.first;
+    let second = states.second;
+    let start = state_before(version, first, fragment);
+    let other_start = state_before(version, second, other);
+    let mut codes = [0u8; 64];
+    unpack_fragment(version, variant, fragment, &mut codes);
+    let mut other_codes = [0u8; 64];
+    unpack_fragment(version, variant, other, &mut other_codes);
+    let mut predictors = [0i16; 64];
+    let mut other_predictors = [0i16; 64];
+    let starts = Two {
+        first: start,
+        second: other_start,
+    };
+    let ends = run_two(
+        version,
+        variant,
+        sizes,
+        nexts,
+        starts,
+        &codes,
+        &other_codes,
+        n,
+        &mut predictors,
+        &mut other_predictors,
+    );
+    apply_volume(version, &predictors, fragment[0], samples);
+    apply_volume(version, &other_predictors, other[0], others);
+    let end = ends.first;
+    let other_end = ends.second;
+    Two {
+        first: state_after(version, first, end),
+        second: state_after(version, second, other_end),
+    }
+}
