@@ -1,48 +1,56 @@
--- The codes of silence, which trial a fragment holds, and its bytes. Assumes nothing.
-use mathlib.Core.Path.{_≡_, refl}
-use mathlib.Core.List.{List, [], _∷_, map}
-use Prim.Native.Nat.{ℕ, zero, suc}
-use native.Mathlib.Nat.{mul-zero}
+-- A fragment's bytes, of silence and of the best trial. Assumes nothing.
+use mathlib.Core.Path.{_≡_, refl, _∙_}
+use mathlib.Core.List.{List, _∷_, map}
+use Prim.Native.Nat.{ℕ, suc, _+_, _<_}
+use native.Mathlib.Nat.{zero-div, zero-mod}
+use native.Mathlib.Numerals.{add-one}
+use native.Mathlib.Omega.{arith}
 use lib.IntN.{ℤ}
-use lib.Pow.{pow-pos}
-use lib.ListN.{take, replicate}
-use borrow.Author.Tests.{eq-eqb, ne-eqb}
-use Rattle.digits.specs.Digits.{number, packed}
-use Rattle.digits.proofs.Laws.{Small}
-use Rattle.format.specs.Layout.{bits, payloadBytes}
+use lib.ListN.{length, take, set, length-set}
+use lib.Seq.{take-suc-set, take-all}
+use borrow.Author.Tests.{ne-eqb}
+use Rattle.digits.specs.Digits.{number, digits}
+use Rattle.digits.proofs.Laws.{digits-snoc}
+use Rattle.format.specs.Layout.{payloadBytes, fragmentSize}
 use Rattle.format.specs.Gain.{pregained, ownVolume}
-use Rattle.format.specs.Encode.{bestTrial, silentTrial, bestOrSilent, fragmentBytes, encodedFragment}
+use Rattle.format.specs.Encode.{bestTrial, fragmentBytes, encodedFragment}
 use Rattle.format.specs.declared.Settings.{Settings}
 
--- ---- zero codes: they fit, and their number is that of no codes
+-- ---- the loop that writes zeros: i of them are written
 
-pub small-zeros : (w n m : ℕ) → Small w (take n (replicate m 0))
-small-zeros w zero m i = pow-pos w
-small-zeros w (suc n) zero i = pow-pos w
-small-zeros w (suc n) (suc m) zero = pow-pos w
-small-zeros w (suc n) (suc m) (suc i) = small-zeros w n m i
+pub record Zeros (n i : ℕ) (out : List ℕ) : Type 0 where
+  pub whole : length out ≡ n
+  pub done : take i out ≡ digits 8 i 0
 
-pub number-zeros : (w n m : ℕ) → number w (take n (replicate m 0)) ≡ number w []
-unfolding number
-number-zeros w zero m = refl
-number-zeros w (suc n) zero = refl
-number-zeros w (suc n) (suc m) = rw (number-zeros w n m, mul-zero)
+pub zeros-none : (out : List ℕ) → Zeros (length out) 0 out
+unfolding digits
+zeros-none out = record { whole = refl; done = refl }
 
--- ---- the trial that a fragment holds, by its volume
+pub zeros-more : (n i : ℕ) {out : List ℕ} → Zeros n i out → i < n → Zeros n (i + 1) (set out i 0)
+zeros-more n i {out} z l =
+    record {
+      whole = length-set out i 0 ∙ z .whole;
+      done = rw (add-one, take-suc-set out i 0 (omega (arith, z .whole)), z .done, digits-snoc 8 i 0, zero-div, zero-mod);
+    }
 
-module _ (k : Settings) (v : ℕ) (xs : List ℤ) where
-  pub is-silent : v ≡ 0 → bestOrSilent k v xs ≡ silentTrial
-  is-silent e = rw (eq-eqb v 0 e)
+pub zeros-all : (n i : ℕ) {out : List ℕ} → Zeros n i out → n ≡ i → out ≡ digits 8 n 0
+zeros-all n i {out} z e = rw (← (take-all i out (omega (arith, z .whole, e))), z .done, e)
 
-  pub is-best : (v ≡ 0 → ⊥) → bestOrSilent k v xs ≡ bestTrial k v xs
-  is-best h = rw (ne-eqb v 0 h)
+-- ---- the bytes of a fragment
 
--- ---- a fragment's bytes
+two-zeros : (n : ℕ) → digits 8 (2 + n) 0 ≡ 0 ∷ 0 ∷ digits 8 n 0
+unfolding digits
+two-zeros n = let e : 2 + n ≡ suc (suc n) = omega arith in rw e
 
--- the volume of a fragment's own samples, and index and codes of its trial: the codes as others of the same number
-pub bytes-are : (k : Settings) (samples xs : List ℤ) (v index w n : ℕ) (codes : List ℕ) {out : List ℕ} → out ≡ v ∷ index ∷ packed w n codes
-    → xs ≡ map (pregained (k .gain)) samples → v ≡ ownVolume xs → index ≡ bestOrSilent k v xs .start
-    → number (bits (k .variant)) codes ≡ number (bits (k .variant)) (bestOrSilent k v xs .codes)
-    → w ≡ bits (k .variant) → n ≡ payloadBytes (k .variant) → out ≡ encodedFragment k samples
-unfolding encodedFragment fragmentBytes
-bytes-are k samples xs v index w n codes eo ex ev ei ec ew en = rw (eo, ew, en, ei, ec, ev, ex)
+module _ (k : Settings) (samples xs : List ℤ) (v : ℕ) (ex : xs ≡ map (pregained (k .gain)) samples) (ev : v ≡ ownVolume xs) where
+  pub silent-bytes : (n : ℕ) {out : List ℕ} → out ≡ digits 8 n 0 → n ≡ fragmentSize 3 (k .variant) → v ≡ 0 → out ≡ encodedFragment k samples
+  unfolding encodedFragment fragmentBytes digits number
+  silent-bytes n eo en e0 =
+      let z : ownVolume xs ≡ 0 = rw (← ev) e0 in
+      rw (eo, en, ← ex, z) (two-zeros (payloadBytes (k .variant)))
+
+  pub best-bytes : {out : List ℕ} → out ≡ fragmentBytes (k .variant) v (bestTrial k v xs) → (v ≡ 0 → ⊥) → out ≡ encodedFragment k samples
+  unfolding encodedFragment
+  best-bytes eo h =
+      let z = ne-eqb v 0 h in
+      rw (eo, ← ex, ← ev, z)

@@ -13,7 +13,7 @@ use Rattle.format.specs.Decode.{fragmentStart}
 use Rattle.format.specs.Encode.{square, codeFor, trialStep, trialTo}
 use Rattle.format.specs.declared.State.{State}
 use Rattle.format.specs.declared.Settings.{Settings}
-use Rattle.search.proofs.Summed.{Summed, summed-none, summed-more, summed-all}
+use Rattle.search.proofs.Summed.{Summed, summed-none, summed-more}
 
 module _ (k : Settings) (v : ℕ) (xs : List ℤ) (index n : ℕ) where
   -- i of n samples are coded

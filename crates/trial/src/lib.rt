@@ -3,11 +3,11 @@ ghost use mathlib.Core.Path.{_≡_};
 ghost use mathlib.Core.List.{_∷_, map};
 ghost use Prim.Native.Nat.{ℕ, _-_, _<_, _≤_, _^_};
 ghost use lib.ListN.{length, getD, take};
-ghost use Rattle.digits.specs.Digits.{number, packed};
+ghost use Rattle.digits.specs.Digits.{digits, packed};
 ghost use Rattle.format.specs.Tables as tables;
-ghost use Rattle.format.specs.Layout.{bits, fragmentSize};
+ghost use Rattle.format.specs.Layout.{fragmentSize};
 ghost use Rattle.format.specs.Gain.{pregained, normalised};
-ghost use Rattle.format.specs.Encode.{trialTo, bestTrial, bestOrSilent, encodedFragment};
+ghost use Rattle.format.specs.Encode.{trialTo, bestTrial, fragmentBytes, encodedFragment};
 use format::Settings;
 use format::State;
 
@@ -110,29 +110,6 @@ fn best_trial(
     }
 }
 
-// Internal: the best trial; for silence, where the volume is 0, index 0 and zero codes.
-fn best_or_silent(
-    steps: &[i32; 89],
-    settings: Settings,
-    volume: u8,
-    xs: [i16; 63],
-    count: usize,
-) -> Best
-    requires { ⌜ (now steps ≡ tables.steps) × (count ≤ 63) ⌝ }
-    ensures { λ r. ⌜ r .index ≡ bestOrSilent settings volume (take count xs) .start ⌝ }
-    ensures { λ r. ⌜ ((i : ℕ) → getD (take count (r .codes)) i 0 < 2 ^ bits (settings .variant)) ⌝ }
-    ensures { λ r. ⌜ number (bits (settings .variant)) (take count (r .codes)) ≡ number (bits (settings .variant)) (bestOrSilent settings volume (take count xs) .codes) ⌝ }
-{
-    if volume == 0 {
-        return Best {
-            index: 0,
-            codes: [0u8; 63],
-            sum: 0,
-        };
-    }
-    best_trial(steps, settings, volume, xs, count)
-}
-
 // Internal: a fragment's bytes that fill `out`: volume, index, and the first `count` codes packed into the rest.
 fn put_fragment(out: &mut [u8], volume: u8, index: u8, codes: [u8; 63], count: usize, bits: usize)
     requires { ⌜ (0 < bits) × (bits ≤ 8) × (count ≤ 63) × (2 ≤ length (now out)) × (length (now out) < 2 ^ 32) ⌝ }
@@ -144,17 +121,40 @@ fn put_fragment(out: &mut [u8], volume: u8, index: u8, codes: [u8; 63], count: u
     digits::pack_codes(&codes[..count], bits, &mut out[2..]);
 }
 
+// The fragment of silence: volume 0, index 0 and zero codes.
+fn put_silence(out: &mut [u8])
+    ensures { λ _. ⌜ now (out .exit) ≡ digits 8 (length (now (out .entry))) 0 ⌝ }
+{
+    let mut i: usize = 0;
+    while i < out.len() {
+        out[i] = 0;
+        i += 1;
+    }
+}
+
+// Internal: the fragment of the first `count` pre-gained samples, which are not silent.
+fn put_best(settings: Settings, volume: u8, xs: [i16; 63], count: usize, out: &mut [u8])
+    requires { ⌜ (count ≤ 63) × (0 < volume) × (length (now out) ≡ fragmentSize 3 (settings .variant)) ⌝ }
+    ensures { λ _. ⌜ now (out .exit) ≡ fragmentBytes (settings .variant) volume (bestTrial settings volume (take count xs)) ⌝ }
+{
+    let steps = adpcm::steps();
+    let best = best_trial(&steps, settings, volume, xs, count);
+    let codes = best.codes;
+    let variant = settings.variant;
+    put_fragment(out, volume, best.index, codes, count, variant.bits());
+}
+
 // Internal: the fragment of at most 63 samples. It fills `out`.
 pub fn encode_fragment(settings: Settings, samples: &[i16], out: &mut [u8])
     requires { ⌜ (length (now samples) ≤ 63) × (length (now out) ≡ fragmentSize 3 (settings .variant)) ⌝ }
     ensures { λ _. ⌜ now (out .exit) ≡ encodedFragment settings (now (samples .entry)) ⌝ }
 {
-    let steps = adpcm::steps();
     let count = samples.len();
     let xs = pre_gained(samples, settings.gain);
     let volume = gain::fragment_volume(&xs[..count]);
-    let best = best_or_silent(&steps, settings, volume, xs, count);
-    let codes = best.codes;
-    let variant = settings.variant;
-    put_fragment(out, volume, best.index, codes, count, variant.bits());
+    if volume == 0 {
+        put_silence(out);
+    } else {
+        put_best(settings, volume, xs, count, out);
+    }
 }
