@@ -70,6 +70,10 @@ module _ (h : Header) (p len : ℕ) (room : h .samples * h .channels ≤ len) wh
 pub mono-state : (h : Header) (p : ℕ) → h .channels ≡ 1 → p % h .channels ≡ 0
 mono-state h p e = rw e (omega arith)
 
+pub mono-states : (h : Header) (d : List ℕ) (p : ℕ) (states : List State) {next : State} → h .channels ≡ 1
+    → next ≡ placeDecoded h d p (getD states 0 zeroState) .state → set states 0 next ≡ turnStates h d p states
+mono-states h d p states e en = rw (en, mono-state h p e)
+
 module _ (h : Header) (p : ℕ) (o xs : List ℤ) where
   pub mono-put : h .channels ≡ 1 → spread (pos 0) o xs (p * wholeFrame h) 1 0 (count h p) ≡ putAt h p xs o
   mono-put e =

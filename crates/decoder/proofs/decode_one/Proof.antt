@@ -2,7 +2,7 @@
 use native.Mathlib.Omega.{arith}
 use mathlib.Core.Path.{refl, _∙_}
 use borrow.Author.Needs.{needs}
-use Rattle.decoder.proofs.InStep.{mono-room, mono-put, mono-state, turn-out}
+use Rattle.decoder.proofs.InStep.{mono-room, mono-put, mono-state, mono-states, turn-out}
 use Rattle.decoder.proofs.decode_one.Statement.{statement}
 use Rattle.decoder.proofs.decode_one.Tie as tie
 
@@ -37,7 +37,7 @@ returns c =
     let a = c .before .before .before .before .before .before .before .before .before .before .before .before .args in
     let at = mono-state (a .h) (a .p) (c .before .before .before .before .before .before .before .before .before .before .before .before .pre .1) in
     let put = rw (c .before .before .before .before .before .before .before .before .frame-samples .ensures .0, c .before .before .before .before .before .before .before .count-at .ensures .0) at (c .before .put-samples .ensures) ∙ mono-put (a .h) (a .p) _ _ (c .before .before .before .before .before .before .before .before .before .before .before .before .pre .1) in (
-      rw (c .before .before .before .before .decode-place .ensures .1, at),
+      mono-states (a .h) (a .file .now) (a .p) (a .t6) (c .before .before .before .before .before .before .before .before .before .before .before .before .pre .1) (c .before .before .before .before .decode-place .ensures .1),
       turn-out (a .h) (a .file .now) (a .p) _ (a .t6) _ _ (rw at) (c .before .before .before .before .decode-place .ensures .0) put,
     )
 
