@@ -25,8 +25,8 @@ use std::hint::black_box;
 use std::process::ExitCode;
 use std::time::{Duration, Instant};
 
-const SOUNDS: [(&str, fn(&mut Random, usize) -> Vec<i16>); 4] =
-    [("speech", speech), ("noise", noise), ("silence", silence), ("tones", tones)];
+const SOUNDS: [(&str, fn(&mut Random, usize) -> Vec<i16>); 5] =
+    [("speech", speech), ("voice", voice), ("noise", noise), ("silence", silence), ("tones", tones)];
 
 fn main() -> ExitCode {
     let words: Vec<String> = std::env::args().skip(1).collect();
@@ -61,6 +61,36 @@ fn speech(random: &mut Random, length: usize) -> Vec<i16> {
     }
     samples.truncate(length);
     samples
+}
+
+/// Sung vowels: pulses of about 120 a second through the three lowest formants, another vowel each fifth of a second, with a
+/// little breath.
+fn voice(random: &mut Random, length: usize) -> Vec<i16> {
+    const VOWELS: [[f64; 3]; 5] =
+        [[730.0, 1090.0, 2440.0], [270.0, 2290.0, 3010.0], [300.0, 870.0, 2240.0], [530.0, 1840.0, 2480.0], [570.0, 840.0, 2410.0]];
+    let rate = RATE as f64;
+    let mut past = [[0.0; 2]; 3];
+    let mut phase = 0.0;
+    (0..length)
+        .map(|at| {
+            let seconds = at as f64 / rate;
+            phase += (120.0 + 6.0 * (5.0 * seconds * std::f64::consts::TAU).sin()) / rate;
+            let pulse = if phase >= 1.0 { 1.0 } else { 0.0 };
+            phase -= pulse;
+            let source = pulse + random.around(100) as f64 / 20000.0;
+            let vowel = VOWELS[at / (RATE as usize / 5) % 5];
+            let sound: f64 = (0..3)
+                .map(|k| {
+                    let radius = (-std::f64::consts::PI * 90.0 / rate).exp();
+                    let turn = 2.0 * radius * (std::f64::consts::TAU * vowel[k] / rate).cos();
+                    let now = turn * past[k][0] - radius * radius * past[k][1] + source;
+                    past[k] = [now, past[k][0]];
+                    now / (k + 1) as f64
+                })
+                .sum();
+            (6000.0 * sound).round().clamp(-32768.0, 32767.0) as i16
+        })
+        .collect()
 }
 
 fn noise(random: &mut Random, length: usize) -> Vec<i16> {

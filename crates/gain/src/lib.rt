@@ -47,7 +47,7 @@ fn larger(a: u32, b: u32) -> u32
 }
 
 // The peak magnitude of the samples, 0 of none.
-fn peak_of(samples: &[i16]) -> u32
+pub fn peak_of(samples: &[i16]) -> u32
     ensures { λ r. ⌜ (r ≡ peak (now (samples .entry)) (length (now (samples .entry)))) × (r ≤ 32768) ⌝ }
 {
     let mut top: u32 = 0;

@@ -102,7 +102,7 @@ module _ {A : Type 0} where
 -- ---- map
 
 module _ {A B : Type 0} (f : A → B) where
-  map-at : (xs : List A) (i : ℕ) (d : A) (e : B) → i < length xs → getD (map f xs) i e ≡ f (getD xs i d)
+  pub map-at : (xs : List A) (i : ℕ) (d : A) (e : B) → i < length xs → getD (map f xs) i e ≡ f (getD xs i d)
   map-at [] i d e h = let z : ⊥ = omega arith in absurd z
   map-at (x ∷ xs) zero d e h = refl
   map-at (x ∷ xs) (suc i) d e h = map-at xs i d e (omega arith)

@@ -1,18 +1,20 @@
 -- A fragment's bytes, of silence and of the best trial. Assumes nothing.
-use mathlib.Core.Path.{_≡_, refl, _∙_}
+use mathlib.Core.Path.{_≡_, refl, _∙_, ap}
 use mathlib.Core.List.{List, _∷_, map}
-use Prim.Native.Nat.{ℕ, suc, _+_, _<_}
-use native.Mathlib.Nat.{zero-div, zero-mod}
+use Prim.Native.Nat.{ℕ, zero, suc, _+_, _≤_, _<_}
+use native.Mathlib.Nat.{le-refl, zero-div, zero-mod}
 use native.Mathlib.Numerals.{add-one}
 use native.Mathlib.Omega.{arith}
-use lib.IntN.{ℤ}
-use lib.ListN.{length, take, set, length-set}
+use lib.IntN.{ℤ, pos, negsuc, natAbs}
+use lib.ListN.{length, getD, take, set, length-set, length-map}
 use lib.Seq.{take-suc-set, take-all}
 use borrow.Author.Tests.{ne-eqb}
+use Rattle.lists.proofs.ByIndex.{map-at}
 use Rattle.digits.specs.Digits.{number, digits}
 use Rattle.digits.proofs.Laws.{digits-snoc}
 use Rattle.format.specs.Layout.{payloadBytes, fragmentSize}
-use Rattle.format.specs.Gain.{pregained, ownVolume}
+use Rattle.signed.specs.Signed.{isNeg, withSign, onMagnitude}
+use Rattle.format.specs.Gain.{pregained, peak, ownVolume}
 use Rattle.format.specs.Encode.{bestTrial, fragmentBytes, encodedFragment}
 use Rattle.format.specs.declared.Settings.{Settings}
 
@@ -35,6 +37,26 @@ zeros-more n i {out} z l =
 
 pub zeros-all : (n i : ℕ) {out : List ℕ} → Zeros n i out → n ≡ i → out ≡ digits 8 n 0
 zeros-all n i {out} z e = rw (← (take-all i out (omega (arith, z .whole, e))), z .done, e)
+
+-- ---- silence
+
+-- samples that are all 0 stay so
+module _ (g : ℕ) (samples : List ℤ) where
+  still : (z : ℤ) → natAbs z ≡ 0 → natAbs (pregained g z) ≡ 0
+  unfolding pregained onMagnitude isNeg withSign
+  still (pos n) e = let z : n ≡ 0 = e in rw z (omega arith)
+  still (negsuc n) e = let z : ⊥ = omega arith in absurd z
+
+  peak-still : (n : ℕ) → n ≤ length samples → peak samples n ≡ 0 → peak (map (pregained g) samples) n ≡ 0
+  unfolding peak
+  peak-still zero l e = refl
+  peak-still (suc n) l e =
+      let here : natAbs (getD (map (pregained g) samples) n (pos 0)) ≡ 0 =
+      ap natAbs (map-at (pregained g) samples n (pos 0) (pos 0) l) ∙ still (getD samples n (pos 0)) (omega arith) in
+      omega (arith, peak-still n (omega arith) (omega arith), here)
+
+  pub silent-volume : peak samples (length samples) ≡ 0 → ownVolume (map (pregained g) samples) ≡ 0
+  silent-volume e = rw (length-map, peak-still (length samples) (le-refl _) e)
 
 -- ---- the bytes of a fragment
 

@@ -144,11 +144,16 @@ fn put_best(settings: Settings, volume: u8, xs: [i16; 63], count: usize, out: &m
     put_fragment(out, volume, best.index, codes, count, variant.bits());
 }
 
-// Internal: the fragment of at most 63 samples. It fills `out`.
+// Internal: the fragment of at most 63 samples. It fills `out`. Samples that are all 0 take the short way; others can be silent after
+// pre-gain.
 pub fn encode_fragment(settings: Settings, samples: &[i16], out: &mut [u8])
     requires { ⌜ (length (now samples) ≤ 63) × (length (now out) ≡ fragmentSize 3 (settings .variant)) ⌝ }
     ensures { λ _. ⌜ now (out .exit) ≡ encodedFragment settings (now (samples .entry)) ⌝ }
 {
+    if gain::peak_of(samples) == 0 {
+        put_silence(out);
+        return;
+    }
     let count = samples.len();
     let xs = pre_gained(samples, settings.gain);
     let volume = gain::fragment_volume(&xs[..count]);
