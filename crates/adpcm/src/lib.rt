@@ -146,7 +146,7 @@ fn levels(version: u8, variant: Variant) -> [i32; 4]
 }
 
 // The level of a code.
-fn level(version: u8, variant: Variant, code: u8) -> u32
+pub fn level(version: u8, variant: Variant, code: u8) -> u32
     ensures { λ r. ⌜ (r ≡ levelOf version variant code) × (r ≤ 14) ⌝ }
 {
     let table = levels(version, variant);

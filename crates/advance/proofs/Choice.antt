@@ -24,7 +24,8 @@ use Rattle.format.specs.declared.Variant.the-variants.{H, L, LPlus}
 use Rattle.format.proofs.Range.{stepped-range}
 use Rattle.format.proofs.Variant.{the-type}
 use Rattle.adpcm.proofs.Bounds.{difference-three, adjustment-three, step-low}
-use Rattle.advance.specs.Advance.{Landed}
+use Rattle.advance.specs.declared.Sizes.{Sizes}
+use Rattle.advance.specs.Advance.{Sized, Landed}
 use Rattle.advance.proofs.Cascade.{index-moved}
 use Rattle.advance.proofs.Nearest.{apart, Chosen, chosen, Lowest, cut, rises, differ, first-only, up-near, up-far, down-near, down-far}
 
@@ -56,6 +57,15 @@ grow LPlus step e h = go (decLt step 8)
         let q : step ≡ 7 = omega arith in
         rw q (record { some = omega arith; one = omega arith; two = omega arith; three = omega arith })
     go (no l) = record { some = omega arith; one = omega arith; two = omega arith; three = omega arith }
+
+pub sized-order : (variant : Variant) (step : ℕ) {r : Sizes} → bits variant ≡ 3 → 7 ≤ step → Sized variant step r
+    → (r .a ≤ r .d) × (r .b ≤ r .d) × (r .c ≤ r .d)
+sized-order variant step e h z =
+    let g = grow variant step e h in (
+      omega (arith, z .first, z .fourth, g .one, g .two, g .three),
+      omega (arith, z .second, z .fourth, g .two, g .three),
+      omega (arith, z .third, z .fourth, g .three),
+    )
 
 grows : {f : ℕ → ℕ} → Grow f → (i j : ℕ) → i < j → j < 4 → f i < f j
 grows g zero (suc zero) h l = g .one

@@ -1,3 +1,4 @@
 pub mod Cascade
 pub mod Nearest
+pub mod Rows
 pub mod Choice

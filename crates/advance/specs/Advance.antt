@@ -1,17 +1,26 @@
 -- The sizes of differences and where they land. Assumes nothing.
 use mathlib.Core.Path.{_≡_}
-use Prim.Native.Nat.{ℕ, _+_, _-_, _≤_, _<_}
-use Rattle.format.specs.Step.{lSize, levelOf}
+use Prim.Native.Nat.{ℕ, _+_, _-_, _/_, _%_, _≤_, _<_, min}
+use Rattle.format.specs.Step.{stepAt, lSize, levelOf}
 use Rattle.format.specs.declared.Variant.{Variant}
 use Rattle.advance.specs.declared.Sizes.{Sizes}
 
--- the sizes of the differences by the code's two low bits
+-- the sizes of the differences of a variant, a row of four for each index, by the code's two low bits
+abbrev pub sizeEntry : Variant → ℕ → ℕ
+sizeEntry variant k = lSize (levelOf 3 variant (k % 4)) (stepAt (k / 4))
+
 pub record Sized (variant : Variant) (step : ℕ) (r : Sizes) : Type 0 where
   pub first : r .a ≡ lSize (levelOf 3 variant 0) step
   pub second : r .b ≡ lSize (levelOf 3 variant 1) step
   pub third : r .c ≡ lSize (levelOf 3 variant 2) step
   pub fourth : r .d ≡ lSize (levelOf 3 variant 3) step
-  pub small : (r .a ≤ 65535) × (r .b ≤ 65535) × (r .c ≤ 65535) × (r .d ≤ 65535)
+
+-- the sizes cut off at a room
+pub record Within (s : Sizes) (room : ℕ) (r : Sizes) : Type 0 where
+  pub first : r .a ≡ min (s .a) room
+  pub second : r .b ≡ min (s .b) room
+  pub third : r .c ≡ min (s .c) room
+  pub fourth : r .d ≡ min (s .d) room
 
 -- from the raised predictor p to r: `offset` toward the raised sample x, or the limit behind p, where that is nearer
 pub record Landed (x p twice offset r : ℕ) : Type 0 where

@@ -4,15 +4,19 @@ ghost use mathlib.Core.Path.{_≡_};
 ghost use Prim.Native.Nat.{_+_, _-_, _<_, _≤_, min};
 ghost use mathlib.Core.Bool.{cond};
 ghost use lib.Signed.{mag};
+ghost use Rattle.lists.specs.Lists.{tabulate};
 ghost use Rattle.format.specs.Tables as tables;
 ghost use Rattle.format.specs.Layout.{bits};
-ghost use Rattle.format.specs.Step.{lSize, stepped};
+ghost use Rattle.format.specs.Step.{stepAt, lSize, stepped};
 ghost use Rattle.format.specs.Decode.{InRange};
 ghost use Rattle.format.specs.Encode.{hCode, lCode, codeFor};
 ghost use Rattle.format.specs.declared.Variant.the-variants as variants;
-ghost use Rattle.advance.specs.Advance.{Sized, Landed};
+ghost use Rattle.advance.specs.Advance.{sizeEntry, Sized, Within, Landed};
 use format::State;
 use format::Variant;
+
+// The version that the encoder writes.
+const VERSION: u8 = 3;
 
 // a - b, and 0 where that is below 0.
 fn less(a: u32, b: u32) -> u32
@@ -126,25 +130,49 @@ fn l_size(level: u32, step: u32) -> u32
     (level * step + 4) / 8
 }
 
-// Internal: the four sizes at a step.
-fn l_sizes(variant: Variant, step: u32) -> Sizes
-    requires { ⌜ (bits variant ≡ 3) × (step ≤ 32767) ⌝ }
-    ensures { λ r. ⌜ Sized variant step r ⌝ }
+// Internal: the sizes of L or L+, a row of four for each index, to be made once above the loops and lent down; of H zeros.
+pub fn size_table(steps: &[i32; 89], variant: Variant) -> [u32; 356]
+    requires { ⌜ now steps ≡ tables.steps ⌝ }
+    ensures { λ r. ⌜ r ≡ tabulate (sizeEntry variant) 356 ⌝ }
 {
-    if let Variant::L = variant {
-        Sizes {
-            a: l_size(1, step),
-            b: l_size(3, step),
-            c: l_size(5, step),
-            d: l_size(7, step),
-        }
-    } else {
-        Sizes {
-            a: l_size(1, step),
-            b: l_size(2, step),
-            c: l_size(3, step),
-            d: l_size(14, step),
-        }
+    let mut table = [0u32; 356];
+    let mut k: usize = 0;
+    while k < 356 {
+        let level = adpcm::level(VERSION, variant, (k % 4) as u8);
+        let step = adpcm::step_size(steps, k / 4);
+        table[k] = l_size(level, step);
+        k += 1;
+    }
+    table
+}
+
+// Internal: the four sizes at an index.
+fn sizes_at(table: &[u32; 356], variant: Variant, index: usize) -> Sizes
+    requires { ⌜ (now table ≡ tabulate (sizeEntry variant) 356) × (index ≤ 88) ⌝ }
+    ensures { λ r. ⌜ Sized variant (stepAt index) r ⌝ }
+{
+    let row = 4 * index;
+    Sizes {
+        a: table[row],
+        b: table[row + 1],
+        c: table[row + 2],
+        d: table[row + 3],
+    }
+}
+
+// Internal: the sizes cut off at a limit. Most often none is, and then nothing waits for it.
+fn within(sizes: Sizes, limit: u32) -> Sizes
+    requires { ⌜ (sizes .a ≤ sizes .d) × (sizes .b ≤ sizes .d) × (sizes .c ≤ sizes .d) ⌝ }
+    ensures { λ r. ⌜ Within sizes limit r ⌝ }
+{
+    if sizes.d <= limit {
+        return sizes;
+    }
+    Sizes {
+        a: smaller(sizes.a, limit),
+        b: smaller(sizes.b, limit),
+        c: smaller(sizes.c, limit),
+        d: limit,
     }
 }
 
@@ -158,7 +186,7 @@ fn pick(on: bool, a: u32, b: u32) -> u32
 // Internal: how far a raised predictor p can go toward a raised sample x.
 fn room(x: u32, p: u32) -> u32
     requires { ⌜ p ≤ 65535 ⌝ }
-    ensures { λ r. ⌜ (x < p → r ≡ p) × (p ≤ x → r ≡ 65535 - p) ⌝ }
+    ensures { λ r. ⌜ (x < p → r ≡ p) × (p ≤ x → r ≡ 65535 - p) × (r ≤ 65535) ⌝ }
 {
     if x < p { p } else { 65535 - p }
 }
@@ -182,22 +210,21 @@ fn l_landed(x: u32, p: u32, twice: u32, offset: u32) -> u32
 
 // Internal: the state after the L or L+ code for a normalised sample, without the eight candidates: which of the four toward the
 // sample is the nearest, as many of the three middles between them lie short of the sample.
-fn l_next(steps: &[i32; 89], variant: Variant, state: State, input: i32) -> State
-    requires { ⌜ (now steps ≡ tables.steps) × InRange state × (mag input ≤ 32767) × (bits variant ≡ 3) ⌝ }
+fn l_next(table: &[u32; 356], variant: Variant, state: State, input: i32) -> State
+    requires { ⌜ (now table ≡ tabulate (sizeEntry variant) 356) × InRange state × (mag input ≤ 32767) × (bits variant ≡ 3) ⌝ }
     ensures { λ r. ⌜ r ≡ stepped 3 variant state (lCode variant state input) ⌝ }
 {
     let index = state.index;
     let predictor = state.predictor;
-    let step = adpcm::step_size(steps, index);
     let x = signed::raise(input);
     let p = signed::raise(predictor);
     let twice = 2 * gap(x, p);
     let limit = room(x, p);
-    let sizes = l_sizes(variant, step);
-    let a = smaller(sizes.a, limit);
-    let b = smaller(sizes.b, limit);
-    let c = smaller(sizes.c, limit);
-    let d = smaller(sizes.d, limit);
+    let sizes = within(sizes_at(table, variant, index), limit);
+    let a = sizes.a;
+    let b = sizes.b;
+    let c = sizes.c;
+    let d = sizes.d;
     let m = count_of(a + b < twice, 1) + count_of(b + c < twice, 1) + count_of(c + d < twice, 1);
     let offset = pick(
         c + d < twice,
@@ -210,14 +237,20 @@ fn l_next(steps: &[i32; 89], variant: Variant, state: State, input: i32) -> Stat
     }
 }
 
-// Internal: the state after the code for a normalised sample. A call for each variant, so that its levels are constants there.
-pub fn next_state(steps: &[i32; 89], variant: Variant, state: State, input: i32) -> State
-    requires { ⌜ (now steps ≡ tables.steps) × InRange state × (mag input ≤ 32767) ⌝ }
+// Internal: the state after the code for a normalised sample.
+pub fn next_state(
+    steps: &[i32; 89],
+    table: &[u32; 356],
+    variant: Variant,
+    state: State,
+    input: i32,
+) -> State
+    requires { ⌜ (now steps ≡ tables.steps) × (now table ≡ tabulate (sizeEntry variant) 356) × InRange state × (mag input ≤ 32767) ⌝ }
     ensures { λ r. ⌜ r ≡ stepped 3 variant state (codeFor variant state input) ⌝ }
 {
-    match variant {
-        Variant::H => h_next(steps, state, input),
-        Variant::L => l_next(steps, Variant::L, state, input),
-        Variant::LPlus => l_next(steps, Variant::LPlus, state, input),
+    if let Variant::H = variant {
+        h_next(steps, state, input)
+    } else {
+        l_next(table, variant, state, input)
     }
 }

@@ -18,6 +18,44 @@ pub fn scaled(x: i32, gain: u8, half: u32) -> i16
     signed::sign_like(x, q) as i16
 }
 
+// Internal: m * gain / 255, by the two halves of 257 * m * gain: 257 * 255 is 65535, so that the high half is the quotient, or one
+// less where the halves together with what is added reach 65535. With 16-bit numbers only, eight are worked out at a time.
+fn quotient(m: u32, gain: u8, half: u32) -> u16
+    requires { ⌜ (m ≤ 32768) × (half ≤ 127) ⌝ }
+    ensures { λ r. ⌜ r ≡ (m * gain + half) / 255 ⌝ }
+{
+    let g = gain as u32;
+    let high = (m * (257 * g) / 65536) as u16;
+    let product = (m * g % 65536) as u16;
+    let low = std::num::wrapping_add_u16(product, product % 256 * 256);
+    let threshold = (65535 - 257 * half) as u16;
+    if threshold - high <= low {
+        high + 1
+    } else {
+        high
+    }
+}
+
+// Internal: the 16-bit number with magnitude m, negated where `negative`, by its depth below 32767.
+fn with_sign16(negative: bool, m: u16) -> i16
+    requires { ⌜ mag (withSign negative m) ≤ 32767 ⌝ }
+    ensures { λ r. ⌜ r ≡ withSign negative m ⌝ }
+{
+    let depth = if negative { 32767 + m } else { 32767 - m };
+    signed::at_depth(depth as u32)
+}
+
+// Internal: the same as `scaled`, for loops over many samples.
+pub fn scaled_in_halves(x: i32, gain: u8, half: u32) -> i16
+    requires { ⌜ (mag x ≤ 32767) × (half ≤ 127) ⌝ }
+    ensures { λ r. ⌜ r ≡ withSign (isNeg x) ((natAbs x * gain + half) / 255) ⌝ }
+{
+    with_sign16(
+        signed::is_negative(x),
+        quotient(signed::magnitude(x), gain, half),
+    )
+}
+
 // What `scaled` adds before it divides, for the output gain of a version (output-scaled in proofs/Laws).
 pub fn rounding(version: u8) -> u32
     ensures { λ r. ⌜ (r ≡ rounding version) × (r ≤ 127) ⌝ }

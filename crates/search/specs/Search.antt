@@ -1,7 +1,9 @@
 -- What the parts of the search promise: a trial that may be given up, and which sums win. Assumes nothing.
 use mathlib.Core.Path.{_≡_}
 use mathlib.Core.List.{List}
-use Prim.Native.Nat.{ℕ, _+_, _*_, _/_, _%_, _^_, _≤_, _<_}
+use mathlib.Core.Bool.{cond}
+use Prim.Native.Nat.{ℕ, _+_, _-_, _*_, _/_, _%_, _^_, _≤_, _<_}
+use lib.Dec.{ltb}
 use lib.IntN.{ℤ}
 use lib.ListN.{getD}
 use Rattle.lists.specs.Lists.{tabulate}
@@ -41,3 +43,13 @@ pub record Tie (index best t : ℕ) : Type 0 where
   pub wins : index < best → t ≡ 1
   pub loses : best ≤ index → t ≡ 0
   pub small : t ≤ 1
+
+-- the start of each turn: four bounds, the loudest first, then all
+unfoldable pub startAt : ℕ → ℕ
+startAt turn = cond (ltb turn 4) (88 - 8 * turn) (turn - 4)
+
+-- a start that an earlier turn has
+pub record Tried (turn index : ℕ) : Type 0 where
+  pub when : ℕ
+  pub earlier : when < turn
+  pub same : startAt when ≡ index

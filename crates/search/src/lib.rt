@@ -6,11 +6,13 @@ ghost use mathlib.Core.Bool.{true};
 ghost use lib.IntN.{natAbs, _-ℤ_};
 ghost use lib.ListN.{length, take};
 ghost use lib.Signed.{mag};
+ghost use Rattle.lists.specs.Lists.{tabulate};
 ghost use Rattle.format.specs.Tables as tables;
 ghost use Rattle.format.specs.Gain.{normalised, outputGain};
 ghost use Rattle.format.specs.Decode.{InRange};
 ghost use Rattle.format.specs.Encode.{square, trialTo, bestTrial};
-ghost use Rattle.search.specs.Search.{key, marksOf, Unmarked, Rival, Bounded, Tie};
+ghost use Rattle.advance.specs.Advance.{sizeEntry};
+ghost use Rattle.search.specs.Search.{key, marksOf, Unmarked, Rival, Bounded, Tie, startAt, Tried};
 use format::Settings;
 use format::State;
 
@@ -23,8 +25,8 @@ const KEYS: u64 = 8388608;
 // A mark with a sum that no trial reaches: 2^64 - 1.
 const NO_MARK: u64 = 18446744073709551615;
 
-// The start whose trial gives the first limit: normalised samples are loud, and want large steps.
-const BOUND: u8 = 80;
+// How many starts are tried first, as bounds: normalised samples are loud, and want large steps.
+const BOUNDS: u8 = 4;
 
 // The start index whose trial has the least sum, the lowest at equality, and that sum.
 pub struct Found {
@@ -66,6 +68,7 @@ fn meets(mark: u64, key: u64, tie: u64, sum: u64) -> bool
 // limit as its answer, where the sum reaches the limit, and where it meets the marked trial: from there on the two go alike.
 fn trial_sum(
     steps: &[i32; 89],
+    table: &[u32; 356],
     settings: Settings,
     volume: u8,
     xs: &[i16; 63],
@@ -78,7 +81,7 @@ fn trial_sum(
     trace: &mut [u64; 63],
 ) -> u64
     requires { ⌜ (now steps ≡ tables.steps) × (count ≤ 63) × (count ≤ length (now xs)) × (take count (now targets) ≡ map (normalised volume) (take count (now xs))) ⌝ }
-    requires { ⌜ (tie ≤ 1) × (length (now trace) ≡ 63) × Rival settings volume (take count (now xs)) index count limit tie (now marks) ⌝ }
+    requires { ⌜ (now table ≡ tabulate (sizeEntry (settings .variant)) 356) × (tie ≤ 1) × (length (now trace) ≡ 63) × Rival settings volume (take count (now xs)) index count limit tie (now marks) ⌝ }
     ensures { λ r. ⌜ Bounded limit (trialTo settings volume (take count (now (xs .entry))) index count .sum) r ⌝ }
     ensures { λ r. ⌜ (2 ^ 38 ≤ limit → Unmarked count (now (marks .entry)) → r < limit) × (length (now (trace .exit)) ≡ 63) ⌝ }
     ensures { λ r. ⌜ (r < limit → (r < 2 ^ 38) × (take count (now (trace .exit)) ≡ marksOf settings volume (take count (now (xs .entry))) index count)) ⌝ }
@@ -98,7 +101,7 @@ fn trial_sum(
         let variant = settings.variant;
         let sample = xs[i];
         let target = targets[i];
-        state = advance::next_state(steps, variant, state, target as i32);
+        state = advance::next_state(steps, table, variant, state, target as i32);
         sum += squared_error(sample, state, volume);
         i += 1;
     }
@@ -112,12 +115,30 @@ fn tie(index: u8, best: u8) -> u64
     if index < best { 1 } else { 0 }
 }
 
-// Internal: the start that a turn tries: first the bound's, then all in ascending order, from turn 1 on.
+// Internal: the start that a turn tries: first 88, 80, 72 and 64, then all in ascending order.
 fn start_of(turn: u8) -> u8
-    requires { ⌜ turn < 90 ⌝ }
-    ensures { λ r. ⌜ (turn ≡ 0 → r ≡ 80) × (0 < turn → r + 1 ≡ turn) ⌝ }
+    requires { ⌜ turn < 93 ⌝ }
+    ensures { λ r. ⌜ (r ≡ startAt turn) × (r ≤ 88) ⌝ }
 {
-    if 0 < turn { turn - 1 } else { BOUND }
+    if turn < BOUNDS {
+        88 - 8 * turn
+    } else {
+        turn - BOUNDS
+    }
+}
+
+// Internal: whether a start was tried before a turn, as a bound.
+fn is_tried(turn: u8, index: u8) -> bool
+    requires { ⌜ index ≤ 88 ⌝ }
+    ensures { λ r. ⌜ (r ≡ true → Tried turn index) ⌝ }
+{
+    if turn < BOUNDS {
+        return false;
+    }
+    if index < 64 {
+        return false;
+    }
+    index % 8 == 0
 }
 
 // Internal: the best start. `targets` are the samples normalised.
@@ -135,17 +156,24 @@ pub fn best_start(
 {
     let mut marks = [NO_MARK; 63];
     let mut trace = [0u64; 63];
+    let variant = settings.variant;
+    let table = advance::size_table(steps, variant);
     let mut best = Found {
-        index: BOUND,
+        index: 88,
         sum: NO_LIMIT,
     };
     let mut turn = 0u8;
-    while turn < 90 {
+    while turn < 93 {
         let index = start_of(turn);
+        if is_tried(turn, index) {
+            turn += 1;
+            continue;
+        }
         let tie = tie(index, best.index);
         let limit = best.sum + tie;
         let sum = trial_sum(
             steps,
+            &table,
             settings,
             volume,
             &xs,

@@ -1,146 +1,180 @@
 -- `advance::l_next` meets its contract: three tests choose the code. Assumes nothing.
+use mathlib.Core.Path.{refl}
 use Prim.Native.Nat.{_+_, _*_}
 use native.Mathlib.Omega.{arith}
 use lib.Dec.{ltb}
 use borrow.Author.Needs.{needs}
 use Rattle.signed.proofs.Laws.{back32, read16}
+use Rattle.format.specs.Step.{stepAt}
+use Rattle.adpcm.proofs.Bounds.{step-low}
 use Rattle.advance.proofs.Nearest.{Chosen, cut}
-use Rattle.advance.proofs.Choice.{sizeAt, l-chosen, l-stepped}
+use Rattle.advance.proofs.Choice.{sizeAt, sized-order, l-chosen, l-stepped}
 use Rattle.advance.proofs.l_next.Statement.{statement}
 use Rattle.advance.proofs.l_next.Tie as tie
+use Rattle.advance.proofs.l_next.Reads as reads
+use Rattle.advance.proofs.l_next.Lts as lts
+use Rattle.advance.proofs.count_of.Reads as count-of-reads
+use Rattle.advance.proofs.gap.Reads as gap-reads
+use Rattle.advance.proofs.l_landed.Reads as l-landed-reads
+use Rattle.advance.proofs.moved.Reads as moved-reads
+use Rattle.advance.proofs.pick.Reads as pick-reads
+use Rattle.advance.proofs.room.Reads as room-reads
+use Rattle.advance.proofs.sizes_at.Reads as sizes-at-reads
+use Rattle.advance.proofs.within.Reads as within-reads
+use Rattle.signed.proofs.lower.Reads as lower-reads
+use Rattle.signed.proofs.raise.Reads as raise-reads
 
-step-size-requires : tie.Need-step-size-requires
-step-size-requires c κs = search needs
-
+-- src/lib.rt:219:9
 raise-requires : tie.Need-raise-requires
 raise-requires c κs = search needs
 
+-- src/lib.rt:220:9
 raise-requires-2 : tie.Need-raise-requires-2
 raise-requires-2 c κs = search needs
 
+-- src/lib.rt:221:21
 gap-requires : tie.Need-gap-requires
 gap-requires c κs = search needs
 
+-- src/lib.rt:221:17
 mul-twice : tie.Need-mul-twice
 mul-twice c = search needs
 
+-- src/lib.rt:222:9
 room-requires : tie.Need-room-requires
 room-requires c κs = search needs
 
-l-sizes-requires : tie.Need-l-sizes-requires
-l-sizes-requires c κs = search needs
+-- src/lib.rt:223:24
+sizes-at-requires : tie.Need-sizes-at-requires
+sizes-at-requires c κs = search needs
 
-smaller-requires : tie.Need-smaller-requires
-smaller-requires c κs = search needs
+-- src/lib.rt:223:9
+within-requires : tie.Need-within-requires
+within-requires c κs =
+    let s = c .before .before .before .before .before .before in
+    sized-order (s .args .variant) (stepAt (s .args .state .index)) (s .pre .3) (step-low (s .args .state .index) (s .pre .1 .index)) (c .sizes-at .ensures)
 
-smaller-requires-2 : tie.Need-smaller-requires-2
-smaller-requires-2 c κs = search needs
-
-smaller-requires-3 : tie.Need-smaller-requires-3
-smaller-requires-3 c κs = search needs
-
-smaller-requires-4 : tie.Need-smaller-requires-4
-smaller-requires-4 c κs = search needs
-
+-- src/lib.rt:228:22
 add-count-of : tie.Need-add-count-of
 add-count-of c = search needs
 
+-- src/lib.rt:228:13
 count-of-requires : tie.Need-count-of-requires
 count-of-requires c κs = search needs
 
+-- src/lib.rt:228:51
 add-count-of-2 : tie.Need-add-count-of-2
 add-count-of-2 c = search needs
 
+-- src/lib.rt:228:42
 count-of-requires-2 : tie.Need-count-of-requires-2
 count-of-requires-2 c κs = search needs
 
+-- src/lib.rt:228:13
 add-m : tie.Need-add-m
 add-m c = search needs
 
+-- src/lib.rt:228:80
 add-count-of-3 : tie.Need-add-count-of-3
 add-count-of-3 c = search needs
 
+-- src/lib.rt:228:71
 count-of-requires-3 : tie.Need-count-of-requires-3
 count-of-requires-3 c κs = search needs
 
+-- src/lib.rt:228:13
 add-m-2 : tie.Need-add-m-2
 add-m-2 c = search needs
 
+-- src/lib.rt:230:9
 add-pick : tie.Need-add-pick
 add-pick c = search needs
 
+-- src/lib.rt:232:14
 add-pick-2 : tie.Need-add-pick-2
 add-pick-2 c = search needs
 
+-- src/lib.rt:232:37
 add-pick-3 : tie.Need-add-pick-3
 add-pick-3 c = search needs
 
+-- src/lib.rt:232:32
 pick-requires : tie.Need-pick-requires
 pick-requires c κs = search needs
 
+-- src/lib.rt:232:9
 pick-requires-2 : tie.Need-pick-requires-2
 pick-requires-2 c κs = search needs
 
+-- src/lib.rt:229:9
 pick-requires-3 : tie.Need-pick-requires-3
 pick-requires-3 c κs = search needs
 
 -- what the three tests choose
 known : (c : tie.After-pick3) →
-    let g = c .before .before .before .before .before .before .before .before .before .before .before .before in
-    let s = c .before .before .before .before .before .before .before .before .before .before .before .before .before .before .before .before .before in
-    Chosen (g .gap .result) (cut (sizeAt (s .args .variant) (c .before .before .before .before .before .before .before .before .before .before .before .before .before .before .before .step-size .result)) (c .before .before .before .before .before .before .before .before .before .before .before .room .result))
+    let s = c .before .before .before .before .before .before .before .before .before .before .before .before .before in
+    let w = c .before .before .before .before .before .before .within in
+    let r = c .before .before .before .before .before .before .before .before .before .gap .result in
+    Chosen r (cut (sizeAt (s .args .variant) (stepAt (s .args .state .index))) (c .before .before .before .before .before .before .before .before .room .result))
     (c .before .before .before .before .before .count-of .result + c .before .before .before .before .count-of2 .result + c .before .before .before .count-of3 .result)
     (c .pick3 .result)
-    (ltb (c .before .before .before .before .before .before .before .before .before .smaller .result + c .before .before .before .before .before .before .before .before .smaller2 .result) (2 * g .gap .result))
+    (ltb (w .result .a + w .result .b) (2 * r))
 known c =
-    let s = c .before .before .before .before .before .before .before .before .before .before .before .before .before .before .before .before .before in
-    let z = c .before .before .before .before .before .before .before .before .before .before .l-sizes .ensures in
-    let m = c .before .before .before .before .before .before .before .before .before .before .before .room .ensures in
+    let s = c .before .before .before .before .before .before .before .before .before .before .before .before .before in
+    let z = c .before .before .before .before .before .before .before .sizes-at .ensures in
+    let w = c .before .before .before .before .before .before .within .ensures in
+    let m = c .before .before .before .before .before .before .before .before .room .ensures in
     l-chosen (s .args .variant) (s .args .state) (s .args .input) (s .pre .3) (s .pre .1) (s .pre .2) _ _ _
-    (c .before .before .before .before .before .before .before .before .before .before .before .before .before .before .before .step-size .ensures .0)
-    (rw (read16 (s .args .input) (s .pre .2)) at (c .before .before .before .before .before .before .before .before .before .before .before .before .before .before .raise .ensures .0))
-    (rw (read16 (s .args .state .predictor) (s .pre .1 .predictor)) at (c .before .before .before .before .before .before .before .before .before .before .before .before .before .raise2 .ensures .0))
-    _ _ (c .before .before .before .before .before .before .before .before .before .before .before .before .gap .ensures) (m .0) (m .1) (c .before .before .before .before .before .before .before .before .before .before .before .before .before .before .raise .ensures .1) (c .before .before .before .before .before .before .before .before .before .before .before .before .before .raise2 .ensures .1)
-    (rw (z .first) at (c .before .before .before .before .before .before .before .before .before .smaller .ensures))
-    (rw (z .second) at (c .before .before .before .before .before .before .before .before .smaller2 .ensures))
-    (rw (z .third) at (c .before .before .before .before .before .before .before .smaller3 .ensures))
-    (rw (z .fourth) at (c .before .before .before .before .before .before .smaller4 .ensures))
+    refl
+    (rw (read16 (s .args .input) (s .pre .2)) at (c .before .before .before .before .before .before .before .before .before .before .before .raise .ensures .0))
+    (rw (read16 (s .args .state .predictor) (s .pre .1 .predictor)) at (c .before .before .before .before .before .before .before .before .before .before .raise2 .ensures .0))
+    _ _ (c .before .before .before .before .before .before .before .before .before .gap .ensures) (m .0) (m .1) (c .before .before .before .before .before .before .before .before .before .before .before .raise .ensures .1) (c .before .before .before .before .before .before .before .before .before .before .raise2 .ensures .1)
+    (rw (z .first) at (w .first))
+    (rw (z .second) at (w .second))
+    (rw (z .third) at (w .third))
+    (rw (z .fourth) at (w .fourth))
     (omega (arith, c .before .before .before .before .before .count-of .ensures .0, c .before .before .before .before .count-of2 .ensures .0, c .before .before .before .count-of3 .ensures .0))
     (rw (c .pick3 .ensures, c .before .pick2 .ensures, c .before .before .pick .ensures))
 
+-- src/lib.rt:235:34
 l-landed-requires : tie.Need-l-landed-requires
 l-landed-requires c κs =
-    let m = c .before .before .before .before .before .before .before .before .before .before .before .room .ensures in
+    let m = c .before .before .before .before .before .before .before .before .room .ensures in
     let v = known c .value in (
-      c .before .before .before .before .before .before .before .before .before .before .before .before .before .raise2 .ensures .1,
-      omega (arith, c .before .before .before .before .before .before .before .before .before .before .before .before .gap .ensures, c .before .before .before .before .before .before .before .before .before .before .before .before .before .raise2 .ensures .1, c .before .before .before .before .before .before .before .before .before .before .before .before .before .before .raise .ensures .1),
+      c .before .before .before .before .before .before .before .before .before .before .raise2 .ensures .1,
+      omega (arith, c .before .before .before .before .before .before .before .before .before .gap .ensures, c .before .before .before .before .before .before .before .before .before .before .raise2 .ensures .1, c .before .before .before .before .before .before .before .before .before .before .before .raise .ensures .1),
       (λ l. omega (arith, v, m .0 l)),
       (λ l. omega (arith, v, m .1 l)),
     )
 
+-- src/lib.rt:235:20
 lower-requires : tie.Need-lower-requires
 lower-requires c κs = search needs
 
+-- src/lib.rt:236:29
 add-moved : tie.Need-add-moved
 add-moved c = search needs
 
+-- src/lib.rt:236:44
 mul-moved : tie.Need-mul-moved
 mul-moved c = search needs
 
+-- src/lib.rt:236:16
 moved-requires : tie.Need-moved-requires
-moved-requires c κs = (c .before .before .before .before .before .before .before .before .before .before .before .before .before .before .before .before .before .before .before .pre .1 .index, omega (arith, known (c .before .before) .within))
+moved-requires c κs = (c .before .before .before .before .before .before .before .before .before .before .before .before .before .before .before .pre .1 .index, omega (arith, known (c .before .before) .within))
 
+-- src/lib.rt:213:1
 returns : tie.Need-returns
 returns c =
     let k = c .before .before .before in
-    let s = k .before .before .before .before .before .before .before .before .before .before .before .before .before .before .before .before .before in
-    let m = k .before .before .before .before .before .before .before .before .before .before .before .room .ensures in
+    let s = k .before .before .before .before .before .before .before .before .before .before .before .before .before in
+    let m = k .before .before .before .before .before .before .before .before .room .ensures in
     let l = c .before .lower in
     l-stepped (s .args .variant) (s .args .state) (s .args .input) (s .pre .3) (s .pre .1) (s .pre .2) _ _ _
-    (k .before .before .before .before .before .before .before .before .before .before .before .before .before .before .before .step-size .ensures .0)
-    (rw (read16 (s .args .input) (s .pre .2)) at (k .before .before .before .before .before .before .before .before .before .before .before .before .before .before .raise .ensures .0))
-    (rw (read16 (s .args .state .predictor) (s .pre .1 .predictor)) at (k .before .before .before .before .before .before .before .before .before .before .before .before .before .raise2 .ensures .0))
-    _ _ (k .before .before .before .before .before .before .before .before .before .before .before .before .gap .ensures) (m .0) (m .1) (k .before .before .before .before .before .before .before .before .before .before .before .before .before .before .raise .ensures .1) (k .before .before .before .before .before .before .before .before .before .before .before .before .before .raise2 .ensures .1)
+    refl
+    (rw (read16 (s .args .input) (s .pre .2)) at (k .before .before .before .before .before .before .before .before .before .before .before .raise .ensures .0))
+    (rw (read16 (s .args .state .predictor) (s .pre .1 .predictor)) at (k .before .before .before .before .before .before .before .before .before .before .raise2 .ensures .0))
+    _ _ (k .before .before .before .before .before .before .before .before .before .gap .ensures) (m .0) (m .1) (k .before .before .before .before .before .before .before .before .before .before .before .raise .ensures .1) (k .before .before .before .before .before .before .before .before .before .before .raise2 .ensures .1)
     (known k)
     (c .before .before .l-landed .ensures)
     _ _
@@ -152,17 +186,13 @@ pub l-next-spec : {M : Type 1} → statement M
 l-next-spec =
     tie.close
     (tie.spec
-    step-size-requires
     raise-requires
     raise-requires-2
     gap-requires
     mul-twice
     room-requires
-    l-sizes-requires
-    smaller-requires
-    smaller-requires-2
-    smaller-requires-3
-    smaller-requires-4
+    sizes-at-requires
+    within-requires
     add-count-of
     count-of-requires
     add-count-of-2

@@ -8,41 +8,33 @@ use lib.Seq.{length-take-le}
 use lib.ListN.{length, take}
 use borrow.Author.Needs.{needs}
 use borrow.Kind.Array.{good-length, eSInt}
-use Rattle.search.proofs.Leading.{Ahead, ahead-none, ahead-rival, ahead-new, ahead-old, ahead-all, not-first, no-marks}
+use Rattle.search.proofs.Leading.{Ahead, ahead-none, ahead-rival, ahead-new, ahead-old, ahead-again, ahead-all, not-first, no-marks}
 use Rattle.search.proofs.best_start.Statement.{statement}
 use Rattle.search.proofs.best_start.Tie as tie
 
 abbrev Inv-loop : tie.InvT-loop
-Inv-loop steps settings volume count xs targets marks₀ trace₀ best₀ turn₀ marks trace best turn =
+Inv-loop steps settings volume count xs targets marks₀ trace₀ table best₀ turn₀ marks trace best turn =
     Ahead settings volume (take count xs) count turn best marks × (length trace ≡ 63)
 
 abbrev μ-loop : tie.MeasureT-loop
-μ-loop steps settings volume count xs targets marks₀ trace₀ best₀ turn₀ marks trace best turn = 90 - turn
+μ-loop steps settings volume count xs targets marks₀ trace₀ table best₀ turn₀ marks trace best turn =
+    93 - turn
 
 -- the samples are at least as many as are meant
 room : (c : tie.Start Inv-loop μ-loop) → c .args .count ≤ length (c .args .t4)
 room c = omega (arith, good-length (eSInt w16) 63 (c .args .t4) _ (c .good .1 .1 .1 .0), c .pre .1)
 
+size-table-requires : tie.Need-size-table-requires Inv-loop μ-loop
+size-table-requires c κs = search needs
+
 loop-holds : tie.Need-loop-holds Inv-loop μ-loop
-loop-holds c = (ahead-none _ _ _ _ (no-marks (c .args .count) (c .pre .1)), refl)
+loop-holds c = (ahead-none _ _ _ _ (no-marks (c .before .args .count) (c .before .pre .1)), refl)
 
 start-of-requires : tie.Need-start-of-requires Inv-loop μ-loop
 start-of-requires c κs = omega arith
 
-tie-requires : tie.Need-tie-requires Inv-loop μ-loop
-tie-requires c κs = search needs
-
-add-limit : tie.Need-add-limit Inv-loop μ-loop
-add-limit c = omega (arith, c .before .before .before .before .loop .inv .0 .small, c .before .tie .ensures .small)
-
-trial-sum-requires : tie.Need-trial-sum-requires Inv-loop μ-loop
-trial-sum-requires c κs =
-    let t = c .before .before .before .before .before in
-    let l = t .before .before .before .loop in
-    let s = t .before .before .before .before in (
-      (s .pre .0, s .pre .1, room s, s .pre .3),
-      (t .tie .ensures .small, l .inv .1, ahead-rival _ _ _ _ (l .inv .0) _),
-    )
+is-tried-requires : tie.Need-is-tried-requires Inv-loop μ-loop
+is-tried-requires c κs = c .start-of .ensures .1
 
 add-turn : tie.Need-add-turn Inv-loop μ-loop
 add-turn c = omega arith
@@ -52,23 +44,51 @@ loop-less c = omega arith
 
 loop-again : tie.Need-loop-again Inv-loop μ-loop
 loop-again c =
+    let l = c .before .before .before .before .loop in
+    let h : l .turn < 93 = omega (arith, c .before .before .before .loop-test .taken) in
+    (ahead-again _ _ _ _ (l .inv .0) h (c .before .before .start-of .ensures .0) (c .before .is-tried .ensures (c .if1 .taken)), l .inv .1)
+
+tie-requires : tie.Need-tie-requires Inv-loop μ-loop
+tie-requires c κs = search needs
+
+add-limit : tie.Need-add-limit Inv-loop μ-loop
+add-limit c = omega (arith, c .before .before .before .before .before .before .loop .inv .0 .small, c .before .tie .ensures .small)
+
+trial-sum-requires : tie.Need-trial-sum-requires Inv-loop μ-loop
+trial-sum-requires c κs =
+    let t = c .before .before .before .before .before .before in
+    let l = t .before .before .before .before .before .loop in
+    let m = t .before .before .before .before .before .before in
+    let s = m .before in (
+      (s .pre .0, s .pre .1, room s, s .pre .3),
+      (m .size-table .ensures, t .tie .ensures .small, l .inv .1, ahead-rival _ _ _ _ (l .inv .0) _),
+    )
+
+add-turn-2 : tie.Need-add-turn-2 Inv-loop μ-loop
+add-turn-2 c = omega arith
+
+loop-less-2 : tie.Need-loop-less-2 Inv-loop μ-loop
+loop-less-2 c = omega arith
+
+loop-again-2 : tie.Need-loop-again-2 Inv-loop μ-loop
+loop-again-2 c =
     let r = c .before .trial-sum .ensures in
-    let t = c .before .before .before .before .before .before .before in
-    let n = t .before .start-of .ensures in
-    let l = t .before .before .before .loop in
+    let t = c .before .before .before .before .before .before .before .before in
+    let n = t .before .before .before .start-of .ensures in
+    let l = t .before .before .before .before .before .loop in
     let a = l .inv .0 in
     let e = t .tie .ensures in
-    let h : l .turn < 90 = omega (arith, t .before .before .loop-test .taken) in
+    let h : l .turn < 93 = omega (arith, t .before .before .before .before .loop-test .taken) in
     ⊎-elim
     (λ w.
     let m = r .1 .1 (w .0 .taken) in
-    rw (w .1, w .2) (ahead-new _ _ _ _ a h (n .0) (n .1) e (r .0 .same (w .0 .taken)) (w .0 .taken) (m .0) (m .1), r .1 .0 .1))
-    (λ w. rw (w .1, w .2) (ahead-old _ _ _ _ a h (n .0) (n .1) e (r .0 .over (w .0 .left)) (not-first _ _ _ _ a (r .1 .0 .0) (w .0 .left) (omega arith)), r .1 .0 .1))
-    (c .if1 .came)
+    rw (w .1, w .2) (ahead-new _ _ _ _ a h (n .0) e (n .1) (r .0 .same (w .0 .taken)) (w .0 .taken) (m .0) (m .1), r .1 .0 .1))
+    (λ w. rw (w .1, w .2) (ahead-old _ _ _ _ a h (n .0) e (r .0 .over (w .0 .left)) (not-first _ _ _ _ a (r .1 .0 .0) (w .0 .left) (omega arith)), r .1 .0 .1))
+    (c .if2 .came)
 
 returns : tie.Need-returns Inv-loop μ-loop
 returns c =
-    let s = c .before .before in
+    let s = c .before .before .before in
     ahead-all _ _ _ _ (length-take-le (s .args .count) (s .args .t4) (room s)) (c .before .loop .inv .0) (omega arith)
 
 pub best-start-spec : {M : Type 1} → statement M
@@ -77,12 +97,17 @@ best-start-spec =
     (tie.spec
     Inv-loop
     μ-loop
+    size-table-requires
     loop-holds
     start-of-requires
-    tie-requires
-    add-limit
-    trial-sum-requires
+    is-tried-requires
     add-turn
     loop-less
     loop-again
+    tie-requires
+    add-limit
+    trial-sum-requires
+    add-turn-2
+    loop-less-2
+    loop-again-2
     returns)

@@ -18,18 +18,18 @@ use Rattle.search.proofs.trial_sum.Statement.{statement}
 use Rattle.search.proofs.trial_sum.Tie as tie
 
 abbrev Inv-loop : tie.InvT-loop
-Inv-loop steps settings volume xs targets count index limit tie marks trace₀ state₀ sum₀ i₀ trace state sum i =
+Inv-loop steps table settings volume xs targets count index limit tie marks trace₀ state₀ sum₀ i₀ trace state sum i =
     Traced settings volume (take count xs) index count i state sum trace
 
 abbrev μ-loop : tie.MeasureT-loop
-μ-loop steps settings volume xs targets count index limit tie marks trace₀ state₀ sum₀ i₀ trace state sum i = count - i
+μ-loop steps table settings volume xs targets count index limit tie marks trace₀ state₀ sum₀ i₀ trace state sum i = count - i
 
 fragment-start-requires : tie.Need-fragment-start-requires Inv-loop μ-loop
 fragment-start-requires c κs = search needs
 
 loop-holds : tie.Need-loop-holds Inv-loop μ-loop
 loop-holds c =
-    traced-none _ _ _ _ _ (summed-none _ _ _ _ _ (c .fragment-start .ensures)) (c .before .pre .1 .1)
+    traced-none _ _ _ _ _ (summed-none _ _ _ _ _ (c .fragment-start .ensures)) (c .before .pre .1 .2)
 
 returns : tie.Need-returns Inv-loop μ-loop
 returns c =
@@ -49,7 +49,7 @@ element-copy-out-meets : tie.Need-element-copy-out-meets Inv-loop μ-loop
 element-copy-out-meets c = omega arith
 
 meets-requires : tie.Need-meets-requires Inv-loop μ-loop
-meets-requires c κs = omega (arith, c .before .before .before .before .before .before .pre .1 .0)
+meets-requires c κs = omega (arith, c .before .before .before .before .before .before .pre .1 .1)
 
 returns-2 : tie.Need-returns-2 Inv-loop μ-loop
 returns-2 c =
@@ -59,7 +59,7 @@ returns-2 c =
     let l = c .before .before .before .before .before .before .loop in
     let q : l .i < s .args .count = c .before .before .before .before .before .loop-test .taken in
     let o : getD (s .args .marks .now) (l .i) 0 / 8388608 + s .args .tie ≤ l .sum = omega (arith, m .1) in
-    let h = met _ _ _ _ _ (s .pre .1 .2) (t .summed) q (c .before .before .before .key-of .ensures .0) (m .0) o in
+    let h = met _ _ _ _ _ (s .pre .1 .3) (t .summed) q (c .before .before .before .key-of .ensures .0) (m .0) o in
     (given-up _ _ _ _ _ h, (((λ a b. omega (arith, t .summed .small, m .1, b .high (l .i) q)), t .room), (λ l. absurd (omega arith))))
 
 mul-trace : tie.Need-mul-trace Inv-loop μ-loop
@@ -93,6 +93,7 @@ next-state-requires : tie.Need-next-state-requires Inv-loop μ-loop
 next-state-requires c κs =
     let l = c .before .before .before .before .before .before .before .before in (
       l .before .before .pre .0 .0,
+      l .before .before .pre .1 .0,
       l .loop .inv .summed .range,
       rw (toZ-ofZ (cast-next-state c), back16 _ (c .target .given)) (omega (arith, c .target .given)),
     )
