@@ -50,13 +50,15 @@ returns : tie.Need-returns
 returns c =
     let s = c .before .before in
     let z = s .args .m * s .args .gain in
-    rw times (rounds-up z (s .args .half) (product s) (s .pre .1) (rw (times, c .before .wrapping-add-u16 .ensures, low-half z) at (c .if1 .taken)))
+    let t = rw (times, c .before .wrapping-add-u16 .ensures, low-half z) at (c .if1 .taken) in
+    rw times (rounds-up z (s .args .half) (product s) (s .pre .1) (omega arith))
 
 returns-2 : tie.Need-returns-2
 returns-2 c =
     let s = c .before .before in
     let z = s .args .m * s .args .gain in
-    rw times (rounds-down z (s .args .half) (product s) (s .pre .1) (rw (times, c .before .wrapping-add-u16 .ensures, low-half z) at (c .if1 .left)))
+    let t = rw (times, c .before .wrapping-add-u16 .ensures, low-half z) at (c .if1 .left) in
+    rw times (rounds-down z (s .args .half) (product s) (s .pre .1) (omega arith))
 
 pub quotient-spec : {M : Type 1} → statement M
 quotient-spec =
