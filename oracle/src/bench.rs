@@ -2,9 +2,15 @@
 //! builds and starts this program; oracle/README.md says what it measures.
 
 #[allow(dead_code)]
+mod answer;
+#[allow(dead_code)]
+mod convert;
+#[allow(dead_code)]
 mod input;
 #[allow(dead_code)]
 mod lists;
+#[allow(dead_code)]
+mod print;
 #[allow(dead_code)]
 #[path = "../../examples/rust/postlapse.rs"]
 mod postlapse;
@@ -42,6 +48,7 @@ fn main() -> ExitCode {
     bench.encode();
     bench.decode();
     bench.waves();
+    bench.fragments();
     bench.summary();
     ExitCode::SUCCESS
 }
@@ -132,7 +139,8 @@ fn channels_word(channels: u8) -> &'static str {
 
 // ---- measuring
 
-/// What is asked: the words of a table's row, the length in seconds, and how many samples there are in all channels.
+/// What is asked: the words of a table's row, the length in seconds, 0 for one fragment, and how many samples there are in all
+/// channels.
 #[derive(Clone)]
 struct Input {
     words: Vec<String>,
@@ -154,15 +162,22 @@ impl Row {
 
     fn line(&self) -> String {
         let speed = |seconds: f64| self.input.samples as f64 / seconds / 1e6;
-        let (words, seconds) = (self.input.words.join(" "), self.input.seconds);
+        let words = self.input.words.join(" ");
+        let length = if self.input.seconds == 0 { String::new() } else { format!("{} s", self.input.seconds) };
         let [ours, rust, ratio] = [speed(self.ours), speed(self.rust), self.ratio()];
-        format!("{:<8} {words:<19} {seconds:>4} s {ours:>10.3} {rust:>10.3} {ratio:>8.3}", self.call)
+        format!("{:<12} {words:<19} {length:>6} {ours:>10.3} {rust:>10.3} {ratio:>8.3}", self.call)
     }
 }
 
 struct Bench {
     quick: bool,
     rows: Vec<Row>,
+}
+
+/// The reference's inspection as a call that gives the whole header, as ours is.
+#[inline(never)]
+fn inspected(file: &[u8]) -> Option<sqv4::Header> {
+    sqv4::inspect(file).ok()
 }
 
 /// The seconds that one of `times` calls takes.
@@ -198,7 +213,7 @@ impl Bench {
     }
 
     fn encode(&mut self) {
-        println!("call     input               length       ours       Rust    ratio   (million samples a second)");
+        println!("call         input               length       ours       Rust    ratio   (million samples a second)");
         for (sound, make) in SOUNDS {
             for channels in 1..=2 {
                 for &seconds in self.lengths(&[1, 10, 60]) {
@@ -275,14 +290,15 @@ impl Bench {
                     "inspect",
                     input,
                     || ours::inspect(black_box(&file)).samples as usize,
-                    || sqv4::inspect(black_box(&file)).ok().unwrap().samples_per_channel,
+                    || inspected(black_box(&file)).unwrap().samples_per_channel,
                 );
             }
         }
     }
 
-    /// WAV reading, the samples loaded.
+    /// WAV reading, the samples loaded; and WAV writing to a file in memory.
     fn waves(&mut self) {
+        let path = convert::scratch(".bench.wav");
         for (channels, fields) in [(1, MONO), (2, STEREO)] {
             for &seconds in self.lengths(&[1, 10, 60, 600]) {
                 let samples = interleaved(noise, channels, seconds * RATE as usize);
@@ -299,6 +315,85 @@ impl Bench {
                     },
                     || wav::read_pcm16_wave(&file).unwrap().samples,
                 );
+                self.race(
+                    "WAV write",
+                    Input { words: vec![channels_word(channels).to_string()], seconds, samples: samples.len() },
+                    || {
+                        let mut out = vec![0; 44 + 2 * samples.len()];
+                        ours::write_wave(channels, RATE, &samples, &mut out);
+                        std::fs::write(&path, out).unwrap();
+                    },
+                    || convert::write(&path, channels, RATE, &samples),
+                );
+            }
+        }
+        std::fs::remove_file(&path).unwrap();
+    }
+
+    /// Calls on one fragment: the shortest whole streams, and the decoders of a single fragment.
+    fn fragments(&mut self) {
+        let mut random = Random(1);
+        for variant in VARIANTS {
+            let pcm = interleaved(voice, 1, 63);
+            let words = vec![name(variant).to_string()];
+            let input = Input { words: words.clone(), seconds: 0, samples: 63 };
+            self.race(
+                "1: encode",
+                input.clone(),
+                || {
+                    let mut out = vec![0; 16 + fragment_size(3, variant)];
+                    ours::encode(black_box(&pcm), 1, RATE, variant as u8, 255, &mut out);
+                    out
+                },
+                || sqv4::encode_interleaved(black_box(&pcm), 1, RATE, variant, 255).unwrap(),
+            );
+            for version in 1..=3 {
+                let count = frame_samples(version);
+                let file = match version {
+                    3 => sqv4::encode_interleaved(&pcm, 1, RATE, variant, 255).unwrap(),
+                    _ => lists::random_stream(&mut random, version, variant, 1, count),
+                };
+                let words = vec![words[0].clone(), format!("version {version}")];
+                let input = Input { words, seconds: 0, samples: count };
+                self.race(
+                    "1: decode",
+                    input.clone(),
+                    || {
+                        let mut out = vec![0; count];
+                        ours::decode(black_box(&file), &mut out);
+                        out
+                    },
+                    || sqv4::decode(black_box(&file)).unwrap().samples,
+                );
+                self.race(
+                    "1: inspect",
+                    input.clone(),
+                    || ours::inspect(black_box(&file)).samples as usize,
+                    || inspected(black_box(&file)).unwrap().samples_per_channel,
+                );
+                let fragment = &file[16..];
+                self.race(
+                    "1: fragment",
+                    input,
+                    || {
+                        let mut out = [0; 64];
+                        let state = ours::State { predictor: 0, index: 0 };
+                        ours::decode_fragment(version, variant as u8, state, black_box(fragment), &mut out[..count]);
+                        out
+                    },
+                    || {
+                        let mut out = [0; 64];
+                        let fragment = black_box(fragment);
+                        match version {
+                            3 => sqv4::decode_fragment(variant, fragment, &mut out[..count]),
+                            _ => {
+                                let mut state = sqv4::State::default();
+                                sqv4::decode_legacy_fragment(version, variant, &mut state, fragment, &mut out[..count])
+                            }
+                        }
+                        out
+                    },
+                );
             }
         }
     }
@@ -310,9 +405,17 @@ impl Bench {
         (logs.iter().sum::<f64>() / logs.len() as f64).exp()
     }
 
-    /// Geometric means of the ratios, by the words of the rows too; how the time per sample grows; and the peak of memory.
+    fn least(&self, call: &str) -> &Row {
+        let rows = self.rows.iter().filter(|row| row.call.starts_with(call));
+        rows.min_by(|a, b| a.ratio().total_cmp(&b.ratio())).unwrap()
+    }
+
+    /// Geometric means of the ratios, by the words of the rows too, and the least of each call; how the time per sample grows; and
+    /// the peak of memory. The last line has the ratios that are asked for.
     fn summary(&self) {
-        const CALLS: [&str; 4] = ["encode", "decode", "inspect", "WAV read"];
+        const CALLS: [&str; 9] = [
+            "encode", "decode", "inspect", "WAV read", "WAV write", "1: encode", "1: decode", "1: inspect", "1: fragment",
+        ];
         println!("geometric means of the ratios:");
         for call in CALLS {
             let mut line = format!("{call} {:.3}", self.mean(Row::ratio, |row| row.call == call));
@@ -327,14 +430,21 @@ impl Bench {
                 line += &format!(", {word} {ratio:.3}");
             }
             println!("{line}");
+            println!("  least: {}", self.least(call).line());
         }
         println!("nanoseconds a sample, ours and Rust:");
-        for call in CALLS {
+        for call in &CALLS[..5] {
             println!("{call}{}", self.growth(call));
         }
         println!("peak memory of this process: {}", peak_memory());
-        let [encode, decode] = ["encode", "decode"].map(|call| self.mean(Row::ratio, |row| row.call == call));
-        println!("encode {encode:.3} decode {decode:.3}");
+        let encode = VARIANTS.map(|variant| {
+            let word = name(variant).to_string();
+            let ratio = self.mean(Row::ratio, |row| row.call == "encode" && row.input.words.contains(&word));
+            format!("{word} {ratio:.2}")
+        });
+        let decode = self.mean(Row::ratio, |row| row.call == "decode");
+        let [least, one] = ["decode", "1:"].map(|call| self.least(call).ratio());
+        println!("encode {}, decode {decode:.2}, its least {least:.2}, one fragment's least {one:.2}", encode.join(" "));
     }
 
     /// The mean time of a sample at each length. The one encoding of ten minutes has no others like it, and is left out.

@@ -5,7 +5,7 @@ include!(env!("ORACLE_CONVERT"));
 use crate::answer::Refusal;
 
 /// A file of this name that no other process writes, in memory where there is such a folder.
-fn scratch(name: &str) -> PathBuf {
+pub fn scratch(name: &str) -> PathBuf {
     let memory = PathBuf::from("/dev/shm");
     let folder = if memory.is_dir() { memory } else { env::temp_dir() };
     folder.join(format!("oracle-{}{name}", process::id()))
@@ -16,6 +16,11 @@ fn taken(path: &Path) -> Vec<u8> {
     let bytes = fs::read(path).unwrap();
     fs::remove_file(path).unwrap();
     bytes
+}
+
+/// The reference's writer as it is.
+pub fn write(path: &Path, channels: u8, rate: u32, samples: &[i16]) {
+    write_pcm16_wave(path, channels, rate, samples).unwrap();
 }
 
 /// The file that the reference writes. Its refusals are known by their texts alone.
