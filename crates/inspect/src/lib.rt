@@ -14,21 +14,15 @@ ghost use Rattle.format.specs.Layout.{headerOf, frames, count, streamLength, fr
 ghost use Rattle.format.specs.Inspect.{sameLetters, headerChecks, indexTooHigh, unusedZero, fragmentChecks, inspected};
 ghost use Rattle.format.specs.Answers.{inspectedOf};
 
+// "SQV4", as a little-endian number.
+const MAGIC: u32 = 878072147;
+
 // Internal: whether the first four bytes are "SQV4".
 fn same_letters(file: &[u8]) -> bool
     requires { ⌜ 4 ≤ length (now file) ⌝ }
     ensures { λ r. ⌜ r ≡ sameLetters (now (file .entry)) ⌝ }
 {
-    if file[0] != b'S' {
-        return false;
-    }
-    if file[1] != b'Q' {
-        return false;
-    }
-    if file[2] != b'V' {
-        return false;
-    }
-    file[3] == b'4'
+    digits::le32(file, 0) == MAGIC
 }
 
 // Internal: what the first 16 bytes state.
