@@ -101,7 +101,7 @@ module _ (h : Header) (d : List ℕ) (o : List ℤ) where
       rw e (decoding-more (decoding-more k refl refl) en er)
 
   -- the output is as long as it was
-  pub decoding-stream : {sizes nexts : List ℕ} {p : ℕ} {out : List ℤ} {states : List State} → Decoding p out states → Stream h d sizes nexts o
-      → Stream h d sizes nexts out
+  pub decoding-stream : {differences nexts : List ℕ} {p : ℕ} {out : List ℤ} {states : List State} → Decoding p out states → Stream h d differences nexts o
+      → Stream h d differences nexts out
   decoding-stream k s =
       record { tables = s .tables; some = s .some; few = s .few; size = s .size; room = rw (length-decoding k) (s .room) }

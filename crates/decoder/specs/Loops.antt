@@ -41,8 +41,8 @@ abbrev pub placeDecoded : Header → List ℕ → ℕ → State → DecodedFragm
 placeDecoded h d p s = decodedFragment (h .version) (h .variant) s (fragmentAtPlace h d p) (count h (p / h .channels))
 
 -- what the loop needs of a stream: its tables, its file, and an output with room
-pub record Stream (h : Header) (d sizes nexts : List ℕ) (o : List ℤ) : Type 0 where
-  pub tables : Lookup (h .version) (h .variant) sizes nexts
+pub record Stream (h : Header) (d differences nexts : List ℕ) (o : List ℤ) : Type 0 where
+  pub tables : Lookup (h .version) (h .variant) differences nexts
   pub some : 0 < h .channels
   pub few : h .channels ≤ 2
   pub size : length d ≡ streamLength h

@@ -72,13 +72,13 @@ fn put_two(out: &mut [i16], samples: &[i16; 64], samples2: &[i16; 64], h: Header
 fn decode_place(
     file: &[u8],
     h: Header,
-    sizes: &[u16],
+    differences: &[u32],
     nexts: &[u16],
     p: usize,
     state: State,
     samples: &mut [i16; 64],
 ) -> State
-    requires { ⌜ Lookup (h .version) (h .variant) (now sizes) (now nexts) × (0 < h .channels) × (length (now file) ≡ streamLength h)
+    requires { ⌜ Lookup (h .version) (h .variant) (now differences) (now nexts) × (0 < h .channels) × (length (now file) ≡ streamLength h)
         × (p < frames h * h .channels) × InRange state × (length (now samples) ≡ 64) ⌝ }
     ensures { λ r. ⌜ (take (count h (p / h .channels)) (now (samples .exit)) ≡ placeDecoded h (now (file .entry)) p state .samples)
         × (r ≡ placeDecoded h (now (file .entry)) p state .state) ⌝ }
@@ -90,7 +90,7 @@ fn decode_place(
     player::play(
         h.version,
         variant,
-        sizes,
+        differences,
         nexts,
         state,
         fragment,
@@ -103,14 +103,14 @@ fn decode_place(
 fn decode_places(
     file: &[u8],
     h: Header,
-    sizes: &[u16],
+    differences: &[u32],
     nexts: &[u16],
     p: usize,
     states: Two,
     samples: &mut [i16; 64],
     others: &mut [i16; 64],
 ) -> Two
-    requires { ⌜ Lookup (h .version) (h .variant) (now sizes) (now nexts) × (0 < h .channels) × (length (now file) ≡ streamLength h)
+    requires { ⌜ Lookup (h .version) (h .variant) (now differences) (now nexts) × (0 < h .channels) × (length (now file) ≡ streamLength h)
         × (p + 1 < frames h * h .channels) × InStep h p × InRange (states .first) × InRange (states .second)
         × (length (now samples) ≡ 64) × (length (now others) ≡ 64) ⌝ }
     ensures { λ r. ⌜ (take (count h (p / h .channels)) (now (samples .exit)) ≡ placeDecoded h (now (file .entry)) p (states .first) .samples)
@@ -126,7 +126,7 @@ fn decode_places(
     player::play_two(
         h.version,
         variant,
-        sizes,
+        differences,
         nexts,
         states,
         fragment,
@@ -141,13 +141,13 @@ fn decode_places(
 fn decode_one(
     file: &[u8],
     h: Header,
-    sizes: &[u16],
+    differences: &[u32],
     nexts: &[u16],
     p: usize,
     states: [State; 2],
     out: &mut [i16],
 ) -> [State; 2]
-    requires { ⌜ Stream h (now file) (now sizes) (now nexts) (now out) × (h .channels ≡ 1) × (p < frames h * h .channels) × AllInRange states ⌝ }
+    requires { ⌜ Stream h (now file) (now differences) (now nexts) (now out) × (h .channels ≡ 1) × (p < frames h * h .channels) × AllInRange states ⌝ }
     ensures { λ r. ⌜ (r ≡ turnStates h (now (file .entry)) p states)
         × (now (out .exit) ≡ turnOut h (now (file .entry)) p states (now (out .entry))) ⌝ }
 {
@@ -155,7 +155,7 @@ fn decode_one(
     let n = layout::count_at(h, p);
     let s = states[0];
     let mut samples = [0i16; 64];
-    let next = decode_place(file, h, sizes, nexts, p, s, &mut samples);
+    let next = decode_place(file, h, differences, nexts, p, s, &mut samples);
     put_samples(out, &samples, p * whole, n);
     let mut after = states;
     after[0] = next;
@@ -166,13 +166,13 @@ fn decode_one(
 fn decode_two(
     file: &[u8],
     h: Header,
-    sizes: &[u16],
+    differences: &[u32],
     nexts: &[u16],
     p: usize,
     states: [State; 2],
     out: &mut [i16],
 ) -> [State; 2]
-    requires { ⌜ Stream h (now file) (now sizes) (now nexts) (now out) × (p % 2 ≡ 0) × (p + 1 < frames h * h .channels) × InStep h p × AllInRange states ⌝ }
+    requires { ⌜ Stream h (now file) (now differences) (now nexts) (now out) × (p % 2 ≡ 0) × (p + 1 < frames h * h .channels) × InStep h p × AllInRange states ⌝ }
     ensures { λ r. ⌜ (r ≡ turnStates h (now (file .entry)) (p + 1) (turnStates h (now (file .entry)) p states))
         × (now (out .exit) ≡ turnOut h (now (file .entry)) (p + 1) (turnStates h (now (file .entry)) p states)
         (turnOut h (now (file .entry)) p states (now (out .entry)))) ⌝ }
@@ -188,7 +188,16 @@ fn decode_two(
     };
     let mut samples = [0i16; 64];
     let mut samples2 = [0i16; 64];
-    let next = decode_places(file, h, sizes, nexts, p, two, &mut samples, &mut samples2);
+    let next = decode_places(
+        file,
+        h,
+        differences,
+        nexts,
+        p,
+        two,
+        &mut samples,
+        &mut samples2,
+    );
     put_two(out, &samples, &samples2, h, p);
     let first = next.first;
     let second = next.second;
@@ -213,8 +222,8 @@ fn paired(h: Header, fragments: usize) -> usize
 }
 
 // Internal: the samples of every fragment, in file order, with one state for each channel.
-fn decode_fragments(file: &[u8], h: Header, sizes: &[u16], nexts: &[u16], out: &mut [i16])
-    requires { ⌜ Stream h (now file) (now sizes) (now nexts) (now out) ⌝ }
+fn decode_fragments(file: &[u8], h: Header, differences: &[u32], nexts: &[u16], out: &mut [i16])
+    requires { ⌜ Stream h (now file) (now differences) (now nexts) (now out) ⌝ }
     ensures { λ _. ⌜ now (out .exit) ≡ loopOut h (now (file .entry)) startStates (now (out .entry)) (frames h * h .channels) ⌝ }
 {
     let fragments = layout::fragment_count(h);
@@ -226,12 +235,12 @@ fn decode_fragments(file: &[u8], h: Header, sizes: &[u16], nexts: &[u16], out: &
     let mut states = [zero; 2];
     let mut p = 0;
     while p < pairs {
-        let next = decode_two(file, h, sizes, nexts, p, states, out);
+        let next = decode_two(file, h, differences, nexts, p, states, out);
         states = next;
         p += 2;
     }
     while p < fragments {
-        let next = decode_one(file, h, sizes, nexts, p, states, out);
+        let next = decode_one(file, h, differences, nexts, p, states, out);
         states = next;
         p += 1;
     }
@@ -245,23 +254,23 @@ fn decode_stream(file: &[u8], h: Header, out: &mut [i16])
     let variant = h.variant;
     match variant {
         Variant::H => {
-            let sizes = lookup::tables::h_sizes();
+            let differences = lookup::tables::h_differences();
             let nexts = lookup::tables::h_nexts();
-            decode_fragments(file, h, &sizes, &nexts, out);
+            decode_fragments(file, h, &differences, &nexts, out);
         }
         Variant::L => {
-            let sizes = lookup::tables::l_sizes();
+            let differences = lookup::tables::l_differences();
             let nexts = lookup::tables::l_nexts();
-            decode_fragments(file, h, &sizes, &nexts, out);
+            decode_fragments(file, h, &differences, &nexts, out);
         }
         Variant::LPlus => if h.version == 1 {
-            let sizes = lookup::tables::legacy_l_plus_sizes();
+            let differences = lookup::tables::legacy_l_plus_differences();
             let nexts = lookup::tables::l_nexts();
-            decode_fragments(file, h, &sizes, &nexts, out);
+            decode_fragments(file, h, &differences, &nexts, out);
         } else {
-            let sizes = lookup::tables::l_plus_sizes();
+            let differences = lookup::tables::l_plus_differences();
             let nexts = lookup::tables::l_nexts();
-            decode_fragments(file, h, &sizes, &nexts, out);
+            decode_fragments(file, h, &differences, &nexts, out);
         }
     }
 }

@@ -4,12 +4,11 @@
 use format::State;
 use format::Variant;
 ghost use mathlib.Core.Path.{_≡_};
-ghost use mathlib.Core.Bool.{cond};
-ghost use Prim.Native.Nat.{_+_, _-_, _/_, _<_, _≤_};
-ghost use lib.ListN.{length};
-ghost use Rattle.format.specs.Step.{signBit};
+ghost use Prim.Native.Nat.{_+_, _-_, _/_, _<_, _≤_, _^_};
+ghost use lib.ListN.{length, getD};
+ghost use Rattle.format.specs.Layout.{bits};
 ghost use Rattle.format.specs.Decode.{InRange};
-ghost use Rattle.lookup.specs.Lookup.{kept, unsigned, moved, looked, stateOf};
+ghost use Rattle.lookup.specs.Lookup.{kept, lowered, looked, stateOf};
 
 pub mod tables;
 
@@ -19,14 +18,14 @@ pub struct Point {
     pub at: usize,
 }
 
-// Entries of a row: the value of the bit that negates a code.
-pub fn row_size(variant: Variant) -> u8
-    ensures { λ r. ⌜ r ≡ signBit variant ⌝ }
+// Entries of a row: one for each code.
+pub fn row_size(variant: Variant) -> usize
+    ensures { λ r. ⌜ r ≡ 2 ^ bits variant ⌝ }
 {
     match variant {
-        Variant::H => 8,
-        Variant::L => 4,
-        Variant::LPlus => 4,
+        Variant::H => 16,
+        Variant::L => 8,
+        Variant::LPlus => 8,
     }
 }
 
@@ -37,10 +36,9 @@ pub fn keep(variant: Variant, state: State) -> Point
 {
     let predictor = state.predictor;
     let index = state.index;
-    let w = row_size(variant);
     Point {
         depth: signed::depth(predictor),
-        at: index * (w as usize),
+        at: index * row_size(variant),
     }
 }
 
@@ -51,42 +49,15 @@ fn less(a: u32, b: u32) -> u32
     if b < a { a - b } else { 0 }
 }
 
-// The bits to turn over for a negative difference: all sixteen.
-fn side(negative: bool) -> u32
-    ensures { λ r. ⌜ r ≡ cond negative 65535 0 ⌝ }
+// Internal: a depth after a difference as a table holds it. Each limit is kept by a difference cut at 0, so that no jump is taken.
+fn move_depth(depth: u32, entry: u32) -> u32
+    requires { ⌜ (depth ≤ 65535) × (65535 ≤ entry) ⌝ }
+    ensures { λ r. ⌜ (r ≡ lowered depth entry) × (r ≤ 65535) ⌝ }
 {
-    if negative { 65535 } else { 0 }
+    less(65535, less(entry - depth, 65536))
 }
 
-// Internal: a depth after a difference of that size. With its bits turned over it is measured from below, so that one difference cut
-// at 0 serves both signs, without a branch.
-fn move_depth(depth: u32, negative: bool, size: u32) -> u32
-    requires { ⌜ depth ≤ 65535 ⌝ }
-    ensures { λ r. ⌜ (r ≡ moved negative depth size) × (r ≤ 65535) ⌝ }
-{
-    let turn = side(negative);
-    less(depth ^ turn, size) ^ turn
-}
-
-// Internal: a code without its sign.
-fn unsigned(code: u8, w: u8) -> usize
-    requires { ⌜ code < w + w ⌝ }
-    ensures { λ r. ⌜ (r ≡ unsigned w code) × (r < w) ⌝ }
-{
-    if w <= code {
-        (code - w) as usize
-    } else {
-        code as usize
-    }
-}
-
-// An entry, as a number and as a place.
-fn number(entry: u16) -> u32
-    ensures { λ r. ⌜ r ≡ entry ⌝ }
-{
-    entry as u32
-}
-
+// An entry, as a place.
 fn place(entry: u16) -> usize
     ensures { λ r. ⌜ r ≡ entry ⌝ }
 {
@@ -94,27 +65,28 @@ fn place(entry: u16) -> usize
 }
 
 // Internal: the state after a code. The next row is read from the table's rest behind the code, so that it waits for the row alone.
-pub fn step(s: Point, code: u8, w: u8, sizes: &[u16], nexts: &[u16]) -> Point
-    requires { ⌜ (s .depth ≤ 65535) × (code < w + w) × (s .at + w ≤ length (now sizes)) × (length (now nexts) ≡ length (now sizes)) ⌝ }
-    ensures { λ r. ⌜ (r ≡ looked w (now (sizes .entry)) (now (nexts .entry)) s code) × (r .depth ≤ 65535) ⌝ }
+pub fn step(s: Point, code: u8, differences: &[u32], nexts: &[u16]) -> Point
+    requires { ⌜ (s .depth ≤ 65535) × (s .at + code < length (now differences)) × (length (now nexts) ≡ length (now differences))
+        × (65535 ≤ getD (now differences) (s .at + code) 0) ⌝ }
+    ensures { λ r. ⌜ (r ≡ looked (now (differences .entry)) (now (nexts .entry)) s code) × (r .depth ≤ 65535) ⌝ }
 {
     let from = s.at;
-    let low = unsigned(code, w);
-    let k = from + low;
-    let depth = move_depth(s.depth, w <= code, number(sizes[k]));
-    let rest = &nexts[low..];
+    let code = code as usize;
+    let k = from + code;
+    let depth = move_depth(s.depth, differences[k]);
+    let rest = &nexts[code..];
     let at = place(rest[from]);
     Point { depth, at }
 }
 
 // The index whose row begins at a place.
 fn index_of(variant: Variant, at: usize) -> usize
-    ensures { λ r. ⌜ r ≡ at / signBit variant ⌝ }
+    ensures { λ r. ⌜ r ≡ at / 2 ^ bits variant ⌝ }
 {
     match variant {
-        Variant::H => at / 8,
-        Variant::L => at / 4,
-        Variant::LPlus => at / 4,
+        Variant::H => at / 16,
+        Variant::L => at / 8,
+        Variant::LPlus => at / 8,
     }
 }
 

@@ -1,11 +1,11 @@
--- The predictors of a run of codes, before the output gain. Assumes nothing.
+-- The predictors of a run of codes, as depths, before the output gain. Assumes nothing.
 use Prim.Native.Nat.{ℕ, suc}
 use mathlib.Core.List.{List}
-use lib.IntN.{ℤ}
+use Rattle.signed.specs.Signed.{depth}
 use Rattle.format.specs.Decode.{after}
 use Rattle.format.specs.declared.Variant.{Variant}
 use Rattle.format.specs.declared.State.{State}
 
--- the predictor after code i
-abbrev pub predictorAt : ℕ → Variant → List ℕ → State → ℕ → ℤ
-predictorAt version variant codes s i = after version variant codes s (suc i) .predictor
+-- how far the predictor after code i lies below 32767
+abbrev pub depthAt : ℕ → Variant → List ℕ → State → ℕ → ℕ
+depthAt version variant codes s i = depth (after version variant codes s (suc i) .predictor)

@@ -1,4 +1,4 @@
-// Decoding a fragment by lent tables, for whole streams: its codes are unpacked, the predictors of all codes found, then the output
+// Decoding a fragment by lent tables, for whole streams: its codes are unpacked, the depths of all predictors found, then the output
 // gain applied to all, so that each loop is small and has no branch.
 use format::State;
 use format::Variant;
@@ -14,7 +14,7 @@ ghost use Rattle.format.specs.Layout.{anew, bits, payload, payloadBytes, fragme
 ghost use Rattle.format.specs.Gain.{outputGain};
 ghost use Rattle.format.specs.Decode.{startState, after, decodedFragment, InRange};
 ghost use Rattle.lookup.specs.Lookup.{Lookup, looked};
-ghost use Rattle.player.specs.Play.{predictorAt};
+ghost use Rattle.player.specs.Play.{depthAt};
 
 // Internal: codes of 4 bits, two in a byte.
 fn unpack_fours(payload: &[u8], codes: &mut [u8; 64])
@@ -68,47 +68,46 @@ fn unpack(variant: Variant, payload: &[u8], codes: &mut [u8; 64])
     }
 }
 
-// Internal: one code more: the state after it, and its predictor at place i.
+// Internal: one code more: the state after it, and its depth at place i.
 fn turn(
     s: Point,
     code: u8,
-    w: u8,
-    sizes: &[u16],
+    differences: &[u32],
     nexts: &[u16],
     i: usize,
-    predictors: &mut [i16; 64],
+    depths: &mut [u16; 64],
 ) -> Point
-    requires { ⌜ (s .depth ≤ 65535) × (code < w + w) × (s .at + w ≤ length (now sizes)) × (length (now nexts) ≡ length (now sizes)) × (i < 64) ⌝ }
-    ensures { λ r. ⌜ (r ≡ looked w (now (sizes .entry)) (now (nexts .entry)) s code)
-        × (now (predictors .exit) ≡ set (now (predictors .entry)) i (pos 32767 -ℤ pos (r .depth))) ⌝ }
+    requires { ⌜ (s .depth ≤ 65535) × (s .at + code < length (now differences)) × (length (now nexts) ≡ length (now differences))
+        × (65535 ≤ getD (now differences) (s .at + code) 0) × (i < 64) ⌝ }
+    ensures { λ r. ⌜ (r ≡ looked (now (differences .entry)) (now (nexts .entry)) s code)
+        × (now (depths .exit) ≡ set (now (depths .entry)) i (r .depth)) ⌝ }
 {
-    let next = lookup::step(s, code, w, sizes, nexts);
+    let next = lookup::step(s, code, differences, nexts);
     let depth = next.depth;
-    predictors[i] = signed::at_depth(depth);
+    depths[i] = depth as u16;
     next
 }
 
-// Internal: the predictors after each of the first n codes, and the state after them.
+// Internal: the depths after each of the first n codes, and the state after them.
 fn run(
     version: u8,
     variant: Variant,
-    sizes: &[u16],
+    differences: &[u32],
     nexts: &[u16],
     state: State,
     codes: &[u8; 64],
     n: usize,
-    predictors: &mut [i16; 64],
+    depths: &mut [u16; 64],
 ) -> State
-    requires { ⌜ Lookup version variant (now sizes) (now nexts) × InRange state × ((i : ℕ) → getD (now codes) i 0 < 2 ^ bits variant)
-        × (n ≤ 64) × (length (now predictors) ≡ 64) ⌝ }
+    requires { ⌜ Lookup version variant (now differences) (now nexts) × InRange state × ((i : ℕ) → getD (now codes) i 0 < 2 ^ bits variant)
+        × (n ≤ 64) × (length (now depths) ≡ 64) ⌝ }
     ensures { λ r. ⌜ (r ≡ after version variant (now (codes .entry)) state n)
-        × (take n (now (predictors .exit)) ≡ tabulate (predictorAt version variant (now (codes .entry)) state) n) ⌝ }
+        × (take n (now (depths .exit)) ≡ tabulate (depthAt version variant (now (codes .entry)) state) n) ⌝ }
 {
-    let w = lookup::row_size(variant);
     let mut s = lookup::keep(variant, state);
     let mut i = 0;
     while i < n {
-        s = turn(s, codes[i], w, sizes, nexts, i, predictors);
+        s = turn(s, codes[i], differences, nexts, i, depths);
         i += 1;
     }
     lookup::state_of(variant, s)
@@ -124,32 +123,31 @@ pub struct Two {
 fn run_two(
     version: u8,
     variant: Variant,
-    sizes: &[u16],
+    differences: &[u32],
     nexts: &[u16],
     states: Two,
     codes: &[u8; 64],
     others: &[u8; 64],
     n: usize,
-    predictors: &mut [i16; 64],
-    seconds: &mut [i16; 64],
+    depths: &mut [u16; 64],
+    seconds: &mut [u16; 64],
 ) -> Two
-    requires { ⌜ Lookup version variant (now sizes) (now nexts) × InRange (states .first) × InRange (states .second)
+    requires { ⌜ Lookup version variant (now differences) (now nexts) × InRange (states .first) × InRange (states .second)
         × ((i : ℕ) → getD (now codes) i 0 < 2 ^ bits variant) × ((i : ℕ) → getD (now others) i 0 < 2 ^ bits variant)
-        × (n ≤ 64) × (length (now predictors) ≡ 64) × (length (now seconds) ≡ 64) ⌝ }
+        × (n ≤ 64) × (length (now depths) ≡ 64) × (length (now seconds) ≡ 64) ⌝ }
     ensures { λ r. ⌜ (r .first ≡ after version variant (now (codes .entry)) (states .first) n)
-        × (take n (now (predictors .exit)) ≡ tabulate (predictorAt version variant (now (codes .entry)) (states .first)) n)
+        × (take n (now (depths .exit)) ≡ tabulate (depthAt version variant (now (codes .entry)) (states .first)) n)
         × (r .second ≡ after version variant (now (others .entry)) (states .second) n)
-        × (take n (now (seconds .exit)) ≡ tabulate (predictorAt version variant (now (others .entry)) (states .second)) n) ⌝ }
+        × (take n (now (seconds .exit)) ≡ tabulate (depthAt version variant (now (others .entry)) (states .second)) n) ⌝ }
 {
-    let w = lookup::row_size(variant);
     let first = states.first;
     let second = states.second;
     let mut s = lookup::keep(variant, first);
     let mut t = lookup::keep(variant, second);
     let mut i = 0;
     while i < n {
-        s = turn(s, codes[i], w, sizes, nexts, i, predictors);
-        t = turn(t, others[i], w, sizes, nexts, i, seconds);
+        s = turn(s, codes[i], differences, nexts, i, depths);
+        t = turn(t, others[i], differences, nexts, i, seconds);
         i += 1;
     }
     Two {
@@ -158,15 +156,23 @@ fn run_two(
     }
 }
 
-// Internal: the output gain of a version, for every predictor.
-fn apply_volume(version: u8, predictors: &[i16; 64], volume: u8, samples: &mut [i16; 64])
+// The predictor at a depth.
+fn predictor_at(depth: u16) -> i16
+    ensures { λ r. ⌜ r ≡ pos 32767 -ℤ pos depth ⌝ }
+{
+    signed::at_depth(depth as u32)
+}
+
+// Internal: the output gain of a version, for every depth.
+fn apply_volume(version: u8, depths: &[u16; 64], volume: u8, samples: &mut [i16; 64])
     requires { ⌜ length (now samples) ≡ 64 ⌝ }
-    ensures { λ _. ⌜ now (samples .exit) ≡ tabulate (λ i. outputGain version volume (getD (now (predictors .entry)) i (pos 0))) 64 ⌝ }
+    ensures { λ _. ⌜ now (samples .exit) ≡ tabulate (λ i. outputGain version volume (pos 32767 -ℤ pos (getD (now (depths .entry)) i 0))) 64 ⌝ }
 {
     let half = gain::rounding(version);
     let mut i = 0;
     while i < 64 {
-        samples[i] = gain::scaled(predictors[i] as i32, volume, half);
+        let predictor = predictor_at(depths[i]);
+        samples[i] = gain::scaled(predictor as i32, volume, half);
         i += 1;
     }
 }
@@ -205,14 +211,14 @@ fn unpack_fragment(version: u8, variant: Variant, fragment: &[u8], codes: &mut [
 pub fn play(
     version: u8,
     variant: Variant,
-    sizes: &[u16],
+    differences: &[u32],
     nexts: &[u16],
     state: State,
     fragment: &[u8],
     n: usize,
     samples: &mut [i16; 64],
 ) -> State
-    requires { ⌜ Lookup version variant (now sizes) (now nexts) × InRange state × (length (now fragment) ≡ fragmentSize version variant)
+    requires { ⌜ Lookup version variant (now differences) (now nexts) × InRange state × (length (now fragment) ≡ fragmentSize version variant)
         × (n ≤ frameSamples version) × (length (now samples) ≡ 64) ⌝ }
     ensures { λ r. ⌜ (r ≡ decodedFragment version variant state (now (fragment .entry)) n .state)
         × (take n (now (samples .exit)) ≡ decodedFragment version variant state (now (fragment .entry)) n .samples) ⌝ }
@@ -220,18 +226,18 @@ pub fn play(
     let start = state_before(version, state, fragment);
     let mut codes = [0u8; 64];
     unpack_fragment(version, variant, fragment, &mut codes);
-    let mut predictors = [0i16; 64];
+    let mut depths = [0u16; 64];
     let end = run(
         version,
         variant,
-        sizes,
+        differences,
         nexts,
         start,
         &codes,
         n,
-        &mut predictors,
+        &mut depths,
     );
-    apply_volume(version, &predictors, fragment[0], samples);
+    apply_volume(version, &depths, fragment[0], samples);
     state_after(version, state, end)
 }
 
@@ -239,7 +245,7 @@ pub fn play(
 pub fn play_two(
     version: u8,
     variant: Variant,
-    sizes: &[u16],
+    differences: &[u32],
     nexts: &[u16],
     states: Two,
     fragment: &[u8],
@@ -248,7 +254,7 @@ pub fn play_two(
     samples: &mut [i16; 64],
     others: &mut [i16; 64],
 ) -> Two
-    requires { ⌜ Lookup version variant (now sizes) (now nexts) × InRange (states .first) × InRange (states .second)
+    requires { ⌜ Lookup version variant (now differences) (now nexts) × InRange (states .first) × InRange (states .second)
         × (length (now fragment) ≡ fragmentSize version variant) × (length (now other) ≡ fragmentSize version variant)
         × (n ≤ frameSamples version) × (length (now samples) ≡ 64) × (length (now others) ≡ 64) ⌝ }
     ensures { λ r. ⌜ (r .first ≡ decodedFragment version variant (states .first) (now (fragment .entry)) n .state)
@@ -264,8 +270,8 @@ pub fn play_two(
     unpack_fragment(version, variant, fragment, &mut codes);
     let mut other_codes = [0u8; 64];
     unpack_fragment(version, variant, other, &mut other_codes);
-    let mut predictors = [0i16; 64];
-    let mut other_predictors = [0i16; 64];
+    let mut depths = [0u16; 64];
+    let mut other_depths = [0u16; 64];
     let starts = Two {
         first: start,
         second: other_start,
@@ -273,17 +279,17 @@ pub fn play_two(
     let ends = run_two(
         version,
         variant,
-        sizes,
+        differences,
         nexts,
         starts,
         &codes,
         &other_codes,
         n,
-        &mut predictors,
-        &mut other_predictors,
+        &mut depths,
+        &mut other_depths,
     );
-    apply_volume(version, &predictors, fragment[0], samples);
-    apply_volume(version, &other_predictors, other[0], others);
+    apply_volume(version, &depths, fragment[0], samples);
+    apply_volume(version, &other_depths, other[0], others);
     let end = ends.first;
     let other_end = ends.second;
     Two {

@@ -12,16 +12,16 @@ use Rattle.decoder.proofs.decode_fragments.Statement.{statement}
 use Rattle.decoder.proofs.decode_fragments.Tie as tie
 
 abbrev Inv-loop : tie.InvT-loop
-Inv-loop file h sizes nexts out₀ fragments pairs states₀ p₀ out states p = (p ≤ pairs) × (p % 2 ≡ 0) × Decoding h file out₀ p out states
+Inv-loop file h differences nexts out₀ fragments pairs states₀ p₀ out states p = (p ≤ pairs) × (p % 2 ≡ 0) × Decoding h file out₀ p out states
 
 abbrev μ-loop : tie.MeasureT-loop
-μ-loop file h sizes nexts out₀ fragments pairs states₀ p₀ out states p = pairs - p
+μ-loop file h differences nexts out₀ fragments pairs states₀ p₀ out states p = pairs - p
 
 abbrev Inv-loop2 : tie.InvT-loop2
-Inv-loop2 file h sizes nexts out₀ fragments pairs states₀ p₀ out states p = (pairs ≤ p) × (p ≤ fragments) × ((o : List ℤ) → Decoding h file o p₀ out₀ states₀ → Decoding h file o p out states)
+Inv-loop2 file h differences nexts out₀ fragments pairs states₀ p₀ out states p = (pairs ≤ p) × (p ≤ fragments) × ((o : List ℤ) → Decoding h file o p₀ out₀ states₀ → Decoding h file o p out states)
 
 abbrev μ-loop2 : tie.MeasureT-loop2
-μ-loop2 file h sizes nexts out₀ fragments pairs states₀ p₀ out states p = fragments - p
+μ-loop2 file h differences nexts out₀ fragments pairs states₀ p₀ out states p = fragments - p
 
 fragment-count-requires : tie.Need-fragment-count-requires Inv-loop μ-loop Inv-loop2 μ-loop2
 fragment-count-requires c κs = search needs

@@ -7,8 +7,8 @@ use Rattle.decoder.proofs.decode_stream.Tie as tie
 enum-told : tie.Need-enum-told
 enum-told c = search needs
 
-h-sizes-requires : tie.Need-h-sizes-requires
-h-sizes-requires c κs = search needs
+h-differences-requires : tie.Need-h-differences-requires
+h-differences-requires c κs = search needs
 
 h-nexts-requires : tie.Need-h-nexts-requires
 h-nexts-requires c κs = search needs
@@ -22,13 +22,13 @@ slice-aggregate-decode-fragments-2 c = search needs
 decode-fragments-requires : tie.Need-decode-fragments-requires
 decode-fragments-requires c κs =
     let k = c .before .before .before .before .before .before .before .before .pre in
-    record { tables = rw (c .before .before .before .before .before .enum-told .given .1) (record { size = c .before .before .before .before .h-sizes .ensures (c .before .before .before .before .before .before .before .before .args .h .version); next = c .before .before .before .h-nexts .ensures }); some = k .0; few = k .1; size = k .2; room = k .3 }
+    record { tables = rw (c .before .before .before .before .before .enum-told .given .1) (record { difference = c .before .before .before .before .h-differences .ensures (c .before .before .before .before .before .before .before .before .args .h .version); next = c .before .before .before .h-nexts .ensures }); some = k .0; few = k .1; size = k .2; room = k .3 }
 
 enum-told-2 : tie.Need-enum-told-2
 enum-told-2 c = search needs
 
-l-sizes-requires : tie.Need-l-sizes-requires
-l-sizes-requires c κs = search needs
+l-differences-requires : tie.Need-l-differences-requires
+l-differences-requires c κs = search needs
 
 l-nexts-requires : tie.Need-l-nexts-requires
 l-nexts-requires c κs = search needs
@@ -42,13 +42,13 @@ slice-aggregate-decode-fragments-4 c = search needs
 decode-fragments-requires-2 : tie.Need-decode-fragments-requires-2
 decode-fragments-requires-2 c κs =
     let k = c .before .before .before .before .before .before .before .before .pre in
-    record { tables = rw (c .before .before .before .before .before .enum-told2 .given .1) (record { size = c .before .before .before .before .l-sizes .ensures _; next = c .before .before .before .l-nexts .ensures .0 }); some = k .0; few = k .1; size = k .2; room = k .3 }
+    record { tables = rw (c .before .before .before .before .before .enum-told2 .given .1) (record { difference = c .before .before .before .before .l-differences .ensures _; next = c .before .before .before .l-nexts .ensures .0 }); some = k .0; few = k .1; size = k .2; room = k .3 }
 
 enum-told-3 : tie.Need-enum-told-3
 enum-told-3 c = search needs
 
-legacy-l-plus-sizes-requires : tie.Need-legacy-l-plus-sizes-requires
-legacy-l-plus-sizes-requires c κs = search needs
+legacy-l-plus-differences-requires : tie.Need-legacy-l-plus-differences-requires
+legacy-l-plus-differences-requires c κs = search needs
 
 l-nexts-requires-2 : tie.Need-l-nexts-requires-2
 l-nexts-requires-2 c κs = search needs
@@ -62,10 +62,10 @@ slice-aggregate-decode-fragments-6 c = search needs
 decode-fragments-requires-3 : tie.Need-decode-fragments-requires-3
 decode-fragments-requires-3 c κs =
     let k = c .before .before .before .before .before .before .before .before .before .before .pre in
-    record { tables = rw (c .before .before .before .before .before .before .before .enum-told3 .given .1, c .before .before .before .before .before .if1 .taken) (record { size = c .before .before .before .before .legacy-l-plus-sizes .ensures; next = c .before .before .before .l-nexts2 .ensures .1 }); some = k .0; few = k .1; size = k .2; room = k .3 }
+    record { tables = rw (c .before .before .before .before .before .before .before .enum-told3 .given .1, c .before .before .before .before .before .if1 .taken) (record { difference = c .before .before .before .before .legacy-l-plus-differences .ensures; next = c .before .before .before .l-nexts2 .ensures .1 }); some = k .0; few = k .1; size = k .2; room = k .3 }
 
-l-plus-sizes-requires : tie.Need-l-plus-sizes-requires
-l-plus-sizes-requires c κs = search needs
+l-plus-differences-requires : tie.Need-l-plus-differences-requires
+l-plus-differences-requires c κs = search needs
 
 l-nexts-requires-3 : tie.Need-l-nexts-requires-3
 l-nexts-requires-3 c κs = search needs
@@ -79,7 +79,7 @@ slice-aggregate-decode-fragments-8 c = search needs
 decode-fragments-requires-4 : tie.Need-decode-fragments-requires-4
 decode-fragments-requires-4 c κs =
     let k = c .before .before .before .before .before .before .before .before .before .before .pre in
-    record { tables = rw (c .before .before .before .before .before .before .before .enum-told3 .given .1) (record { size = c .before .before .before .before .l-plus-sizes .ensures _ (ne-eqb _ _ (c .before .before .before .before .before .if1 .left)); next = c .before .before .before .l-nexts3 .ensures .1 }); some = k .0; few = k .1; size = k .2; room = k .3 }
+    record { tables = rw (c .before .before .before .before .before .before .before .enum-told3 .given .1) (record { difference = c .before .before .before .before .l-plus-differences .ensures _ (ne-eqb _ _ (c .before .before .before .before .before .if1 .left)); next = c .before .before .before .l-nexts3 .ensures .1 }); some = k .0; few = k .1; size = k .2; room = k .3 }
 
 same-length : tie.Need-same-length
 same-length c = search needs
@@ -110,24 +110,24 @@ decode-stream-spec =
     tie.close
     (tie.spec
     enum-told
-    h-sizes-requires
+    h-differences-requires
     h-nexts-requires
     slice-aggregate-decode-fragments
     slice-aggregate-decode-fragments-2
     decode-fragments-requires
     enum-told-2
-    l-sizes-requires
+    l-differences-requires
     l-nexts-requires
     slice-aggregate-decode-fragments-3
     slice-aggregate-decode-fragments-4
     decode-fragments-requires-2
     enum-told-3
-    legacy-l-plus-sizes-requires
+    legacy-l-plus-differences-requires
     l-nexts-requires-2
     slice-aggregate-decode-fragments-5
     slice-aggregate-decode-fragments-6
     decode-fragments-requires-3
-    l-plus-sizes-requires
+    l-plus-differences-requires
     l-nexts-requires-3
     slice-aggregate-decode-fragments-7
     slice-aggregate-decode-fragments-8

@@ -5,20 +5,14 @@ use Rattle.lookup.specs.Lookup.{looked}
 use Rattle.lookup.proofs.step.Statement.{statement}
 use Rattle.lookup.proofs.step.Tie as tie
 
-unsigned-requires : tie.Need-unsigned-requires
-unsigned-requires c κs = search needs
-
 add-k : tie.Need-add-k
 add-k c = search needs
 
-mul-number : tie.Need-mul-number
-mul-number c = search needs
+mul-move-depth : tie.Need-mul-move-depth
+mul-move-depth c = search needs
 
-shared-slice-read-number : tie.Need-shared-slice-read-number
-shared-slice-read-number c = search needs
-
-number-requires : tie.Need-number-requires
-number-requires c κs = search needs
+shared-slice-read-move-depth : tie.Need-shared-slice-read-move-depth
+shared-slice-read-move-depth c = search needs
 
 move-depth-requires : tie.Need-move-depth-requires
 move-depth-requires c κs = search needs
@@ -47,19 +41,17 @@ place-requires c κs = search needs
 returns : tie.Need-returns
 unfolding looked
 returns c =
-    let a = c .before .before .before .before .before .before .before .before .before .args in
-    let low = c .before .before .before .before .before .before .unsigned .result in
-    (rw (c .before .before .before .move-depth .ensures .0, c .place .ensures, c .before .before .before .before .number .ensures, rest-at (a .nexts .now) low (a .s .at), c .before .before .before .before .before .before .unsigned .ensures .0), c .before .before .before .move-depth .ensures .1)
+    let a = c .before .before .before .before .before .before .before .args in
+    let d = c .before .before .before .move-depth .ensures in
+    (rw (d .0, c .place .ensures, rest-at (a .nexts .now) (a .code) (a .s .at)), d .1)
 
 pub step-spec : {M : Type 1} → statement M
 step-spec =
     tie.close
     (tie.spec
-    unsigned-requires
     add-k
-    mul-number
-    shared-slice-read-number
-    number-requires
+    mul-move-depth
+    shared-slice-read-move-depth
     move-depth-requires
     mul-rest
     sub-rest

@@ -3,7 +3,7 @@ use Prim.Native.Nat.{_-_, _≤_}
 use native.Mathlib.Omega.{arith}
 use mathlib.Core.Path.{_≡_, _∙_}
 use lib.ListN.{getD}
-use lib.IntN.{pos}
+use lib.IntN.{pos, _-ℤ_}
 use mir.Facts.{toZ-ofZ}
 use borrow.Author.Needs.{needs}
 use Rattle.signed.proofs.Laws.{back16}
@@ -14,10 +14,10 @@ use Rattle.player.proofs.apply_volume.Statement.{statement}
 use Rattle.player.proofs.apply_volume.Tie as tie
 
 abbrev Inv-loop : tie.InvT-loop
-Inv-loop version predictors volume samples₀ half i₀ samples i = (i ≤ 64) × Louder version volume predictors i samples
+Inv-loop version depths volume samples₀ half i₀ samples i = (i ≤ 64) × Louder version volume depths i samples
 
 abbrev μ-loop : tie.MeasureT-loop
-μ-loop version predictors volume samples₀ half i₀ samples i = 64 - i
+μ-loop version depths volume samples₀ half i₀ samples i = 64 - i
 
 rounding-requires : tie.Need-rounding-requires Inv-loop μ-loop
 rounding-requires c κs = search needs
@@ -25,20 +25,23 @@ rounding-requires c κs = search needs
 loop-holds : tie.Need-loop-holds Inv-loop μ-loop
 loop-holds c = (omega arith, louder-none _ _ _ (c .before .pre))
 
-mul-scaled : tie.Need-mul-scaled Inv-loop μ-loop
-mul-scaled c = search needs
+mul-predictor-at : tie.Need-mul-predictor-at Inv-loop μ-loop
+mul-predictor-at c = search needs
 
-element-copy-out-scaled : tie.Need-element-copy-out-scaled Inv-loop μ-loop
-element-copy-out-scaled c = search needs
+element-copy-out-predictor-at : tie.Need-element-copy-out-predictor-at Inv-loop μ-loop
+element-copy-out-predictor-at c = search needs
+
+predictor-at-requires : tie.Need-predictor-at-requires Inv-loop μ-loop
+predictor-at-requires c κs = search needs
 
 cast-scaled : tie.Need-cast-scaled Inv-loop μ-loop
-cast-scaled c = rw (back16 _ (c .scaled-arg .given)) (record { sfits = omega (arith, c .scaled-arg .given) })
+cast-scaled c = rw (back16 (c .predictor-at .result) (c .predictor-at .ok)) (record { sfits = omega (arith, c .predictor-at .ok) })
 
 scaled-requires : tie.Need-scaled-requires Inv-loop μ-loop
-scaled-requires c κs = (rw (toZ-ofZ (cast-scaled c), back16 _ (c .scaled-arg .given)) (omega (arith, c .scaled-arg .given)), c .before .before .before .rounding .ensures .1)
+scaled-requires c κs = (rw (toZ-ofZ (cast-scaled c), back16 (c .predictor-at .result) (c .predictor-at .ok)) (omega (arith, c .predictor-at .ok)), c .before .before .before .before .rounding .ensures .1)
 
-mul-t14 : tie.Need-mul-t14 Inv-loop μ-loop
-mul-t14 c = search needs
+mul-t9 : tie.Need-mul-t9 Inv-loop μ-loop
+mul-t9 c = search needs
 
 element-set-from-samples : tie.Need-element-set-from-samples Inv-loop μ-loop
 element-set-from-samples c = omega arith
@@ -51,9 +54,9 @@ loop-less c = omega arith
 
 loop-again : tie.Need-loop-again Inv-loop μ-loop
 loop-again c =
-    let x : c .scaled .result ≡ outputGain (c .before .before .before .before .before .args .version) (c .before .before .before .before .before .args .volume) (getD (c .before .before .before .before .before .args .predictors .now) (c .before .before .before .loop .i) (pos 0)) =
-    c .scaled .ensures ∙ rw (toZ-ofZ (cast-scaled (c .before)), back16 _ (c .before .scaled-arg .given), c .before .before .before .before .rounding .ensures .0) (output-scaled (c .before .before .before .before .before .args .version) (c .before .before .before .before .before .args .volume) _) in
-    (omega arith, louder-more _ _ _ (c .before .before .before .loop .inv .1) (omega arith) (back16 (c .scaled .result) (c .scaled .ok) ∙ x))
+    let x : c .scaled .result ≡ outputGain (c .before .before .before .before .before .before .args .version) (c .before .before .before .before .before .before .args .volume) (pos 32767 -ℤ pos (getD (c .before .before .before .before .before .before .args .depths .now) (c .before .before .before .before .loop .i) 0)) =
+    c .scaled .ensures ∙ rw (toZ-ofZ (cast-scaled (c .before)), back16 (c .before .predictor-at .result) (c .before .predictor-at .ok), c .before .predictor-at .ensures, c .before .before .before .before .before .rounding .ensures .0) (output-scaled (c .before .before .before .before .before .before .args .version) (c .before .before .before .before .before .before .args .volume) _) in
+    (omega arith, louder-more _ _ _ (c .before .before .before .before .loop .inv .1) (omega arith) (back16 (c .scaled .result) (c .scaled .ok) ∙ x))
 
 returns : tie.Need-returns Inv-loop μ-loop
 returns c = louder-all _ _ _ (c .before .loop .inv .1) (omega arith)
@@ -66,11 +69,12 @@ apply-volume-spec =
     μ-loop
     rounding-requires
     loop-holds
-    mul-scaled
-    element-copy-out-scaled
+    mul-predictor-at
+    element-copy-out-predictor-at
+    predictor-at-requires
     cast-scaled
     scaled-requires
-    mul-t14
+    mul-t9
     element-set-from-samples
     add-i
     loop-less

@@ -8,15 +8,12 @@ use Rattle.player.proofs.run_two.Statement.{statement}
 use Rattle.player.proofs.run_two.Tie as tie
 
 abbrev Inv-loop : tie.InvT-loop
-Inv-loop version variant sizes nexts codes others n predictors₀ seconds₀ w s₀ t₀ i₀ predictors seconds s t i =
-    (i ≤ n) × Ran version variant codes (stateOf variant s₀) i predictors s × Ran version variant others (stateOf variant t₀) i seconds t
+Inv-loop version variant differences nexts codes others n depths₀ seconds₀ s₀ t₀ i₀ depths seconds s t i =
+    (i ≤ n) × Ran version variant codes (stateOf variant s₀) i depths s × Ran version variant others (stateOf variant t₀) i seconds t
 
 abbrev μ-loop : tie.MeasureT-loop
-μ-loop version variant sizes nexts codes others n predictors₀ seconds₀ w s₀ t₀ i₀ predictors seconds s t i =
+μ-loop version variant differences nexts codes others n depths₀ seconds₀ s₀ t₀ i₀ depths seconds s t i =
     n - i
-
-row-size-requires : tie.Need-row-size-requires Inv-loop μ-loop
-row-size-requires c κs = search needs
 
 keep-requires : tie.Need-keep-requires Inv-loop μ-loop
 keep-requires c κs = search needs
@@ -26,21 +23,21 @@ keep-requires-2 c κs = search needs
 
 loop-holds : tie.Need-loop-holds Inv-loop μ-loop
 loop-holds c =
-    let a = c .before .before .before .before .before .before .before .args .states in
-    let k = c .before .before .before .before .before .before .before .pre in
+    let a = c .before .before .before .before .before .before .args .states in
+    let k = c .before .before .before .before .before .before .pre in
     (omega arith, ran-none _ _ _ (a .first) _ (k .1) (c .before .keep .ensures) (k .6), ran-none _ _ _ (a .second) _ (k .2) (c .keep2 .ensures) (k .7))
 
 element-copy-out-turn : tie.Need-element-copy-out-turn Inv-loop μ-loop
 element-copy-out-turn c = omega arith
 
 turn-requires : tie.Need-turn-requires Inv-loop μ-loop
-turn-requires c κs = ran-needs _ _ _ (c .before .before .before .before .before .before .before .before .before .before .before .pre .0) (c .before .before .before .loop .inv .1) (omega arith) (c .before .before .before .before .before .before .before .before .before .before .before .pre .3 (c .before .before .before .loop .i)) (c .before .before .before .before .before .before .before .before .row-size .ensures)
+turn-requires c κs = ran-needs _ _ _ (c .before .before .before .before .before .before .before .before .before .before .pre .0) (c .before .before .before .loop .inv .1) (omega arith) (c .before .before .before .before .before .before .before .before .before .before .pre .3 (c .before .before .before .loop .i))
 
 element-copy-out-turn-2 : tie.Need-element-copy-out-turn-2 Inv-loop μ-loop
 element-copy-out-turn-2 c = omega arith
 
 turn-requires-2 : tie.Need-turn-requires-2 Inv-loop μ-loop
-turn-requires-2 c κs = ran-needs _ _ _ (c .before .before .before .before .before .before .before .before .before .before .before .before .before .before .pre .0) (c .before .before .before .before .before .before .loop .inv .2) (omega arith) (c .before .before .before .before .before .before .before .before .before .before .before .before .before .before .pre .4 (c .before .before .before .before .before .before .loop .i)) (c .before .before .before .before .before .before .before .before .before .before .before .row-size .ensures)
+turn-requires-2 c κs = ran-needs _ _ _ (c .before .before .before .before .before .before .before .before .before .before .before .before .before .pre .0) (c .before .before .before .before .before .before .loop .inv .2) (omega arith) (c .before .before .before .before .before .before .before .before .before .before .before .before .before .pre .4 (c .before .before .before .before .before .before .loop .i))
 
 add-i : tie.Need-add-i Inv-loop μ-loop
 add-i c = omega arith
@@ -51,10 +48,10 @@ loop-less c = omega arith
 loop-again : tie.Need-loop-again Inv-loop μ-loop
 loop-again c =
     let l = c .before .before .before .before .before .before .before .loop in
-    let k = c .before .before .before .before .before .before .before .before .before .before .before .before .before .before .before .pre in (
+    let k = c .before .before .before .before .before .before .before .before .before .before .before .before .before .before .pre in (
       omega arith,
-      ran-more _ _ _ (k .0) (l .inv .1) (omega arith) (k .3 (l .i)) (c .before .before .before .before .before .before .before .before .before .before .before .before .row-size .ensures) (c .before .before .before .turn .ensures .0) (c .before .before .before .turn .ensures .1),
-      ran-more _ _ _ (k .0) (l .inv .2) (omega arith) (k .4 (l .i)) (c .before .before .before .before .before .before .before .before .before .before .before .before .row-size .ensures) (c .turn2 .ensures .0) (c .turn2 .ensures .1),
+      ran-more _ _ _ (k .0) (l .inv .1) (omega arith) (k .3 (l .i)) (c .before .before .before .turn .ensures .0) (c .before .before .before .turn .ensures .1),
+      ran-more _ _ _ (k .0) (l .inv .2) (omega arith) (k .4 (l .i)) (c .turn2 .ensures .0) (c .turn2 .ensures .1),
     )
 
 state-of-requires : tie.Need-state-of-requires Inv-loop μ-loop
@@ -65,8 +62,8 @@ state-of-requires-2 c κs = ran-depth _ _ _ (c .before .before .loop .inv .2)
 
 returns : tie.Need-returns Inv-loop μ-loop
 returns c =
-    let a = c .before .before .before .before .before .before .before .before .before .before .before .args in
-    let k = c .before .before .before .before .before .before .before .before .before .before .before .pre in
+    let a = c .before .before .before .before .before .before .before .before .before .before .args in
+    let k = c .before .before .before .before .before .before .before .before .before .before .pre in
     let e = ran-all _ _ _ (a .states .first) _ (k .1) (c .before .before .before .before .before .keep .ensures) (a .n) (c .before .before .before .loop .inv .1) (omega arith) (c .before .state-of .ensures) in
     let f = ran-all _ _ _ (a .states .second) _ (k .2) (c .before .before .before .before .keep2 .ensures) (a .n) (c .before .before .before .loop .inv .2) (omega arith) (c .state-of2 .ensures) in
     (e .0, e .1, f .0, f .1)
@@ -77,7 +74,6 @@ run-two-spec =
     (tie.spec
     Inv-loop
     μ-loop
-    row-size-requires
     keep-requires
     keep-requires-2
     loop-holds

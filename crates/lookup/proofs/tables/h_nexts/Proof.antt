@@ -11,7 +11,7 @@ use Rattle.lookup.proofs.tables.h_nexts.Tie as tie
 
 returns : tie.Need-returns
 unfolding everyAt inRow clampTo hIndexAdjust
-returns c = rows 8 (nextRule H) _ refl tt
+returns c = rows 16 (nextRule H) _ refl tt
 
 pub h-nexts-spec : {M : Type 1} → statement M
 h-nexts-spec = tie.close (tie.spec returns)

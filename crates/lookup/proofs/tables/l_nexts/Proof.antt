@@ -11,7 +11,7 @@ use Rattle.lookup.proofs.tables.l_nexts.Tie as tie
 
 returns : tie.Need-returns
 unfolding everyAt inRow clampTo lIndexAdjust
-returns c = (rows 4 (nextRule L) _ refl tt, rows 4 (nextRule LPlus) _ refl tt)
+returns c = (rows 8 (nextRule L) _ refl tt, rows 8 (nextRule LPlus) _ refl tt)
 
 pub l-nexts-spec : {M : Type 1} → statement M
 l-nexts-spec = tie.close (tie.spec returns)
