@@ -172,7 +172,7 @@ fn apply_volume(version: u8, depths: &[u16; 64], volume: u8, samples: &mut [i16;
     let mut i = 0;
     while i < 64 {
         let predictor = predictor_at(depths[i]);
-        samples[i] = gain::scaled(predictor as i32, volume, half);
+        samples[i] = gain::scaled_in_halves(predictor as i32, volume, half);
         i += 1;
     }
 }

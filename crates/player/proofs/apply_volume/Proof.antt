@@ -34,11 +34,11 @@ element-copy-out-predictor-at c = search needs
 predictor-at-requires : tie.Need-predictor-at-requires Inv-loop μ-loop
 predictor-at-requires c κs = search needs
 
-cast-scaled : tie.Need-cast-scaled Inv-loop μ-loop
-cast-scaled c = rw (back16 (c .predictor-at .result) (c .predictor-at .ok)) (record { sfits = omega (arith, c .predictor-at .ok) })
+cast-scaled-in-halves : tie.Need-cast-scaled-in-halves Inv-loop μ-loop
+cast-scaled-in-halves c = rw (back16 (c .predictor-at .result) (c .predictor-at .ok)) (record { sfits = omega (arith, c .predictor-at .ok) })
 
-scaled-requires : tie.Need-scaled-requires Inv-loop μ-loop
-scaled-requires c κs = (rw (toZ-ofZ (cast-scaled c), back16 (c .predictor-at .result) (c .predictor-at .ok)) (omega (arith, c .predictor-at .ok)), c .before .before .before .before .rounding .ensures .1)
+scaled-in-halves-requires : tie.Need-scaled-in-halves-requires Inv-loop μ-loop
+scaled-in-halves-requires c κs = (rw (toZ-ofZ (cast-scaled-in-halves c), back16 (c .predictor-at .result) (c .predictor-at .ok)) (omega (arith, c .predictor-at .ok)), c .before .before .before .before .rounding .ensures .1)
 
 mul-t9 : tie.Need-mul-t9 Inv-loop μ-loop
 mul-t9 c = search needs
@@ -54,9 +54,9 @@ loop-less c = omega arith
 
 loop-again : tie.Need-loop-again Inv-loop μ-loop
 loop-again c =
-    let x : c .scaled .result ≡ outputGain (c .before .before .before .before .before .before .args .version) (c .before .before .before .before .before .before .args .volume) (pos 32767 -ℤ pos (getD (c .before .before .before .before .before .before .args .depths .now) (c .before .before .before .before .loop .i) 0)) =
-    c .scaled .ensures ∙ rw (toZ-ofZ (cast-scaled (c .before)), back16 (c .before .predictor-at .result) (c .before .predictor-at .ok), c .before .predictor-at .ensures, c .before .before .before .before .before .rounding .ensures .0) (output-scaled (c .before .before .before .before .before .before .args .version) (c .before .before .before .before .before .before .args .volume) _) in
-    (omega arith, louder-more _ _ _ (c .before .before .before .before .loop .inv .1) (omega arith) (back16 (c .scaled .result) (c .scaled .ok) ∙ x))
+    let x : c .scaled-in-halves .result ≡ outputGain (c .before .before .before .before .before .before .args .version) (c .before .before .before .before .before .before .args .volume) (pos 32767 -ℤ pos (getD (c .before .before .before .before .before .before .args .depths .now) (c .before .before .before .before .loop .i) 0)) =
+    c .scaled-in-halves .ensures ∙ rw (toZ-ofZ (cast-scaled-in-halves (c .before)), back16 (c .before .predictor-at .result) (c .before .predictor-at .ok), c .before .predictor-at .ensures, c .before .before .before .before .before .rounding .ensures .0) (output-scaled (c .before .before .before .before .before .before .args .version) (c .before .before .before .before .before .before .args .volume) _) in
+    (omega arith, louder-more _ _ _ (c .before .before .before .before .loop .inv .1) (omega arith) (back16 (c .scaled-in-halves .result) (c .scaled-in-halves .ok) ∙ x))
 
 returns : tie.Need-returns Inv-loop μ-loop
 returns c = louder-all _ _ _ (c .before .loop .inv .1) (omega arith)
@@ -72,8 +72,8 @@ apply-volume-spec =
     mul-predictor-at
     element-copy-out-predictor-at
     predictor-at-requires
-    cast-scaled
-    scaled-requires
+    cast-scaled-in-halves
+    scaled-in-halves-requires
     mul-t9
     element-set-from-samples
     add-i
