@@ -33,7 +33,7 @@ fn smaller(a: u32, b: u32) -> u32
 }
 
 // The distance of two numbers.
-fn gap(a: u32, b: u32) -> u32
+pub fn gap(a: u32, b: u32) -> u32
     ensures { λ r. ⌜ r ≡ a - b + (b - a) ⌝ }
 {
     if a < b { b - a } else { a - b }

@@ -5,7 +5,7 @@ ghost use Prim.Native.Nat.{_+_, _*_, _/_, _<_, _≤_, max};
 ghost use lib.IntN.{natAbs};
 ghost use lib.ListN.{length};
 ghost use lib.Signed.{mag};
-ghost use Rattle.signed.specs.Signed.{isNeg, withSign};
+ghost use Rattle.signed.specs.Signed.{isNeg, withSign, raised};
 ghost use Rattle.format.specs.Gain.{pregained, peak, volumeOf, ownVolume, normalised, outputGain};
 ghost use Rattle.gain.specs.Rounding.{rounding};
 
@@ -138,4 +138,14 @@ pub fn apply_legacy_volume(reconstructed: i32, volume: u8) -> i16
     ensures { λ r. ⌜ r ≡ outputGain 1 volume reconstructed ⌝ }
 {
     scaled(reconstructed, volume, 0)
+}
+
+// Internal: the output gain of version 3 on raised numbers. No product with a volume lies halfway between two multiples of 255, so
+// that one division rounds numbers of both signs to nearest.
+pub fn raised_output(reconstructed: i32, volume: u8) -> u32
+    requires { ⌜ mag reconstructed ≤ 32767 ⌝ }
+    ensures { λ r. ⌜ (r ≡ raised (outputGain 3 volume reconstructed)) × (r ≤ 65535) ⌝ }
+{
+    let v = volume as u32;
+    (signed::raise(reconstructed) * v + 32768 * (255 - v) + 127) / 255
 }

@@ -40,7 +40,11 @@ pub fn squared_error(sample: i16, state: State, volume: u8) -> u64
     ensures { λ r. ⌜ (r ≡ square (natAbs (sample -ℤ outputGain 3 volume (state .predictor)))) × (r ≤ 4294967296) ⌝ }
 {
     let predictor = state.predictor;
-    signed::squared_distance(sample as i32, gain::apply_volume(predictor, volume) as i32)
+    let d = advance::gap(
+        signed::raise(sample as i32),
+        gain::raised_output(predictor, volume),
+    ) as u64;
+    d * d
 }
 
 // Internal: a state as one number, which a trial marks at a sample together with its sum so far.
