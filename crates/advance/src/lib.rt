@@ -15,16 +15,6 @@ ghost use Rattle.advance.specs.Advance.{sizeEntry, Sized, Within, Landed
 use format::State;
 use format::Variant;
 
-// The version that the encoder writes.
-const VERSION: u8 = 3;
-
-// a - b, and 0 where that is below 0.
-fn less(a: u32, b: u32) -> u32
-    ensures { λ r. ⌜ r ≡ a - b ⌝ }
-{
-    if b < a { a - b } else { 0 }
-}
-
 // The smaller of two numbers.
 fn smaller(a: u32, b: u32) -> u32
     ensures { λ r. ⌜ r ≡ min a b ⌝ }
@@ -87,7 +77,7 @@ fn h_landed(x: u32, p: u32, eighth: u32, last: u32) -> u32
     ensures { λ r. ⌜ (x < p → r ≡ x + last - eighth) × (p ≤ x → r ≡ min (x + eighth - last) 65535) × (r ≤ 65535) ⌝ }
 {
     if x < p {
-        less(x + last, eighth)
+        signed::less(x + last, eighth)
     } else {
         smaller(x + eighth - last, 65535)
     }
@@ -138,7 +128,7 @@ pub fn size_table(steps: &[i32; 89], variant: Variant) -> [u32; 356]
     let mut table = [0u32; 356];
     let mut k: usize = 0;
     while k < 356 {
-        let level = adpcm::level(VERSION, variant, (k % 4) as u8);
+        let level = adpcm::level(format::VERSION, variant, (k % 4) as u8);
         let step = adpcm::step_size(steps, k / 4);
         table[k] = l_size(level, step);
         k += 1;

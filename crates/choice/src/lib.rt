@@ -9,15 +9,12 @@ ghost use Rattle.format.specs.Encode.{takeOff, hCode, choice, lCode, codeFor};
 use format::State;
 use format::Variant;
 
-// The version whose fragments the encoder makes.
-const VERSION: u8 = 3;
-
 // Internal: how far from the input a code's clamped result lands.
 fn error_of(steps: &[i32; 89], variant: Variant, state: State, input: i32, code: u8) -> u32
     requires { ⌜ (now steps ≡ tables.steps) × InRange state × (mag input ≤ 32767) ⌝ }
     ensures { λ r. ⌜ r ≡ choice variant state input code .error ⌝ }
 {
-    let difference = adpcm::delta(steps, VERSION, variant, state, code);
+    let difference = adpcm::delta(steps, format::VERSION, variant, state, code);
     let predictor = state.predictor;
     let candidate = signed::add_clamp16(predictor, difference);
     signed::distance(input, candidate)

@@ -11,13 +11,12 @@ ghost use Prim.Native.Nat.{_+_, _-_, _*_, _/_, _<_, _≤_, min};
 ghost use lib.IntN.{pos};
 ghost use lib.ListN.{length, take, drop, getD};
 ghost use Rattle.lists.specs.Lists.{tabulate};
+ghost use Rattle.format.specs.Tables as tables;
 ghost use Rattle.format.specs.Layout.{fragmentSize, headerBytes, roundedUp};
 ghost use Rattle.format.specs.Encode.{fragmentFor};
 ghost use Rattle.format.specs.Answers.{AsEncoded};
+ghost use Rattle.advance.specs.Advance.{sizeEntry};
 ghost use Rattle.encoder.specs.Loops.{putAfter};
-
-// The version that the encoder writes.
-const VERSION: u8 = 3;
 
 // The header of an encoding.
 fn header_for(settings: Settings, channels: u8, rate: u32, samples: u32) -> Header
@@ -25,7 +24,7 @@ fn header_for(settings: Settings, channels: u8, rate: u32, samples: u32) -> Head
 {
     let variant = settings.variant;
     Header {
-        version: VERSION,
+        version: format::VERSION,
         variant,
         channels,
         rate,
@@ -101,10 +100,19 @@ fn gather(pcm: &[i16], first: usize, channels: usize, channel: usize, n: usize) 
     r
 }
 
-// Internal: the fragments of an encoding, in file order, behind the 16 bytes of the header.
-fn encode_fragments(settings: Settings, pcm: &[i16], channels: usize, out: &mut [u8])
+// Internal: the fragments of an encoding, in file order, behind the 16 bytes of the header. The steps and the sizes of L
+// or L+ are lent.
+fn put_fragments(
+    steps: &[i32; 89],
+    table: &[u32; 356],
+    settings: Settings,
+    pcm: &[i16],
+    channels: usize,
+    out: &mut [u8],
+)
     requires { ⌜ (0 < channels) × (channels ≤ 255) × (length (now pcm) / channels ≤ 4294967295)
         × (16 + roundedUp (length (now pcm) / channels) 63 * channels * fragmentSize 3 (settings .variant) ≤ length (now out)) ⌝ }
+    requires { ⌜ (now steps ≡ tables.steps) × (now table ≡ tabulate (sizeEntry (settings .variant)) 356) ⌝ }
     ensures { λ _. ⌜ now (out .exit) ≡ putAfter (take 16 (now (out .entry))) 16 (fragmentFor settings (now (pcm .entry)) channels) (fragmentSize 3 (settings .variant)) (now (out .entry)) (roundedUp (length (now (pcm .entry)) / channels) 63 * channels) ⌝ }
 {
     let variant = settings.variant;
@@ -119,9 +127,21 @@ fn encode_fragments(settings: Settings, pcm: &[i16], channels: usize, out: &mut 
         let s = gather(pcm, first, channels, c, n);
         let at = 16 + p * size;
         let end = at + size;
-        trial::encode_fragment(settings, &s[..n], &mut out[at..end]);
+        trial::encode_fragment(steps, table, settings, &s[..n], &mut out[at..end]);
         p += 1;
     }
+}
+
+// Internal: the same, with the tables made once.
+fn encode_fragments(settings: Settings, pcm: &[i16], channels: usize, out: &mut [u8])
+    requires { ⌜ (0 < channels) × (channels ≤ 255) × (length (now pcm) / channels ≤ 4294967295)
+        × (16 + roundedUp (length (now pcm) / channels) 63 * channels * fragmentSize 3 (settings .variant) ≤ length (now out)) ⌝ }
+    ensures { λ _. ⌜ now (out .exit) ≡ putAfter (take 16 (now (out .entry))) 16 (fragmentFor settings (now (pcm .entry)) channels) (fragmentSize 3 (settings .variant)) (now (out .entry)) (roundedUp (length (now (pcm .entry)) / channels) 63 * channels) ⌝ }
+{
+    let variant = settings.variant;
+    let steps = adpcm::steps();
+    let table = advance::size_table(&steps, variant);
+    put_fragments(&steps, &table, settings, pcm, channels, out);
 }
 
 // Encodes interleaved samples at the caller's settings into `out`, as a stream of version 3, and answers its length. A refusal leaves the
@@ -129,7 +149,7 @@ fn encode_fragments(settings: Settings, pcm: &[i16], channels: usize, out: &mut 
 pub fn encode(settings: Settings, pcm: &[i16], channels: u8, rate: u32, out: &mut [u8]) -> Encoded
     ensures { λ r. ⌜ AsEncoded settings (now (pcm .entry)) channels rate (now (out .entry)) r (now (out .exit)) ⌝ }
 {
-    if !layout::channels_fit(VERSION, channels) {
+    if !layout::channels_fit(format::VERSION, channels) {
         return Encoded::Refused(Error::InvalidChannels(channels));
     }
     if rate == 0 {

@@ -7,6 +7,9 @@ ghost use Rattle.format.specs.Decode.{fragmentStart};
 ghost use Rattle.format.specs.Answers.{numberOf, valuesOf, given};
 ghost use mathlib.Core.List.{[], _∷_};
 
+// The version that the encoder writes.
+pub const VERSION: u8 = 3;
+
 // A stream's variant: codes of 4 bits (H) or of 3 bits (L, L+).
 pub enum Variant {
     H,

@@ -42,19 +42,12 @@ pub fn keep(variant: Variant, state: State) -> Point
     }
 }
 
-// a - b, and 0 where that is below 0.
-fn less(a: u32, b: u32) -> u32
-    ensures { λ r. ⌜ r ≡ a - b ⌝ }
-{
-    if b < a { a - b } else { 0 }
-}
-
 // Internal: a depth after a difference as a table holds it. Each limit is kept by a difference cut at 0, so that no jump is taken.
 fn move_depth(depth: u32, entry: u32) -> u32
     requires { ⌜ (depth ≤ 65535) × (65535 ≤ entry) ⌝ }
     ensures { λ r. ⌜ (r ≡ lowered depth entry) × (r ≤ 65535) ⌝ }
 {
-    less(65535, less(entry - depth, 65536))
+    signed::less(65535, signed::less(entry - depth, 65536))
 }
 
 // An entry, as a place.

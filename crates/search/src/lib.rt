@@ -148,6 +148,7 @@ fn is_tried(turn: u8, index: u8) -> bool
 // Internal: the best start. `targets` are the samples normalised.
 pub fn best_start(
     steps: &[i32; 89],
+    table: &[u32; 356],
     settings: Settings,
     volume: u8,
     xs: [i16; 63],
@@ -155,13 +156,12 @@ pub fn best_start(
     count: usize,
 ) -> Found
     requires { ⌜ (now steps ≡ tables.steps) × (count ≤ 63) × (0 < volume) × (take count targets ≡ map (normalised volume) (take count xs)) ⌝ }
+    requires { ⌜ now table ≡ tabulate (sizeEntry (settings .variant)) 356 ⌝ }
     ensures { λ r. ⌜ r .index ≡ bestTrial settings volume (take count xs) .start ⌝ }
     ensures { λ r. ⌜ r .sum ≡ bestTrial settings volume (take count xs) .sum ⌝ }
 {
     let mut marks = [NO_MARK; 63];
     let mut trace = [0u64; 63];
-    let variant = settings.variant;
-    let table = advance::size_table(steps, variant);
     let mut best = Found {
         index: 88,
         sum: NO_LIMIT,
@@ -177,7 +177,7 @@ pub fn best_start(
         let limit = best.sum + tie;
         let sum = trial_sum(
             steps,
-            &table,
+            table,
             settings,
             volume,
             &xs,

@@ -1,7 +1,7 @@
 // Signed numbers by sign and magnitude, the clamps, and the two bytes of a 16-bit sample: the only place with signed
 // operators.
 ghost use mathlib.Core.Path.{_≡_};
-ghost use Prim.Native.Nat.{_+_, _*_, _<_, _≤_, _^_};
+ghost use Prim.Native.Nat.{_+_, _-_, _*_, _<_, _≤_, _^_};
 ghost use lib.IntN.{pos, natAbs, _+ℤ_, _-ℤ_};
 ghost use lib.Signed.{mag};
 ghost use Rattle.digits.specs.Digits.{stored};
@@ -76,13 +76,11 @@ pub fn distance(x: i32, y: i32) -> u32
     magnitude(x - y)
 }
 
-// Internal: the square of the distance of two numbers.
-pub fn squared_distance(x: i32, y: i32) -> u64
-    requires { ⌜ natAbs x + natAbs y < 2 ^ 31 ⌝ }
-    ensures { λ r. ⌜ r ≡ natAbs (x -ℤ y) * natAbs (x -ℤ y) ⌝ }
+// a - b, and 0 where that is below 0.
+pub fn less(a: u32, b: u32) -> u32
+    ensures { λ r. ⌜ r ≡ a - b ⌝ }
 {
-    let d = distance(x, y) as u64;
-    d * d
+    if b < a { a - b } else { 0 }
 }
 
 // Internal: the sum, clamped to -32768..=32767.

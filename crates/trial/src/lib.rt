@@ -3,16 +3,15 @@ ghost use mathlib.Core.Path.{_≡_};
 ghost use mathlib.Core.List.{_∷_, map};
 ghost use Prim.Native.Nat.{ℕ, _-_, _<_, _≤_, _^_};
 ghost use lib.ListN.{length, getD, take};
+ghost use Rattle.lists.specs.Lists.{tabulate};
 ghost use Rattle.digits.specs.Digits.{digits, packed};
 ghost use Rattle.format.specs.Tables as tables;
 ghost use Rattle.format.specs.Layout.{fragmentSize};
 ghost use Rattle.format.specs.Gain.{pregained, normalised};
 ghost use Rattle.format.specs.Encode.{trialTo, bestTrial, fragmentBytes, encodedFragment};
+ghost use Rattle.advance.specs.Advance.{sizeEntry};
 use format::Settings;
 use format::State;
-
-// The version whose fragments the encoder makes.
-const VERSION: u8 = 3;
 
 // A trial's codes, one for each sample from place 0 on, and the sum of its squared distances.
 pub struct Trial {
@@ -78,7 +77,7 @@ fn run_trial(
         let sample = xs[i];
         let target = targets[i];
         let code = choice::encode_code(steps, variant, state, target as i32);
-        state = adpcm::update(steps, VERSION, variant, state, code);
+        state = adpcm::update(steps, format::VERSION, variant, state, code);
         codes[i] = code;
         sum += search::squared_error(sample, state, volume);
         i += 1;
@@ -89,18 +88,19 @@ fn run_trial(
 // Internal: of the trials from 0..=88 the one with the least sum, the lowest start at equality.
 fn best_trial(
     steps: &[i32; 89],
+    table: &[u32; 356],
     settings: Settings,
     volume: u8,
     xs: [i16; 63],
     count: usize,
 ) -> Best
-    requires { ⌜ (now steps ≡ tables.steps) × (count ≤ 63) × (0 < volume) ⌝ }
+    requires { ⌜ (now steps ≡ tables.steps) × (now table ≡ tabulate (sizeEntry (settings .variant)) 356) × (count ≤ 63) × (0 < volume) ⌝ }
     ensures { λ r. ⌜ r .index ≡ bestTrial settings volume (take count xs) .start ⌝ }
     ensures { λ r. ⌜ take count (r .codes) ≡ bestTrial settings volume (take count xs) .codes ⌝ }
     ensures { λ r. ⌜ r .sum ≡ bestTrial settings volume (take count xs) .sum ⌝ }
 {
     let targets = normalized(xs, count, volume);
-    let found = search::best_start(steps, settings, volume, xs, targets, count);
+    let found = search::best_start(steps, table, settings, volume, xs, targets, count);
     let trial = run_trial(steps, settings, volume, xs, targets, count, found.index);
     let codes = trial.codes;
     Best {
@@ -133,21 +133,36 @@ fn put_silence(out: &mut [u8])
 }
 
 // Internal: the fragment of the first `count` pre-gained samples, which are not silent.
-fn put_best(settings: Settings, volume: u8, xs: [i16; 63], count: usize, out: &mut [u8])
-    requires { ⌜ (count ≤ 63) × (0 < volume) × (length (now out) ≡ fragmentSize 3 (settings .variant)) ⌝ }
+fn put_best(
+    steps: &[i32; 89],
+    table: &[u32; 356],
+    settings: Settings,
+    volume: u8,
+    xs: [i16; 63],
+    count: usize,
+    out: &mut [u8],
+)
+    requires { ⌜ (now steps ≡ tables.steps) × (now table ≡ tabulate (sizeEntry (settings .variant)) 356) × (count ≤ 63) × (0 < volume)
+        × (length (now out) ≡ fragmentSize 3 (settings .variant)) ⌝ }
     ensures { λ _. ⌜ now (out .exit) ≡ fragmentBytes (settings .variant) volume (bestTrial settings volume (take count xs)) ⌝ }
 {
-    let steps = adpcm::steps();
-    let best = best_trial(&steps, settings, volume, xs, count);
+    let best = best_trial(steps, table, settings, volume, xs, count);
     let codes = best.codes;
     let variant = settings.variant;
     put_fragment(out, volume, best.index, codes, count, variant.bits());
 }
 
-// Internal: the fragment of at most 63 samples. It fills `out`. Samples that are all 0 take the short way; others can be silent after
+// Internal: the fragment of at most 63 samples, with the steps and the sizes of L or L+ lent. It fills `out`. Samples that are all 0 take the short way; others can be silent after
 // pre-gain.
-pub fn encode_fragment(settings: Settings, samples: &[i16], out: &mut [u8])
-    requires { ⌜ (length (now samples) ≤ 63) × (length (now out) ≡ fragmentSize 3 (settings .variant)) ⌝ }
+pub fn encode_fragment(
+    steps: &[i32; 89],
+    table: &[u32; 356],
+    settings: Settings,
+    samples: &[i16],
+    out: &mut [u8],
+)
+    requires { ⌜ (now steps ≡ tables.steps) × (now table ≡ tabulate (sizeEntry (settings .variant)) 356) × (length (now samples) ≤ 63)
+        × (length (now out) ≡ fragmentSize 3 (settings .variant)) ⌝ }
     ensures { λ _. ⌜ now (out .exit) ≡ encodedFragment settings (now (samples .entry)) ⌝ }
 {
     if gain::peak_of(samples) == 0 {
@@ -160,6 +175,6 @@ pub fn encode_fragment(settings: Settings, samples: &[i16], out: &mut [u8])
     if volume == 0 {
         put_silence(out);
     } else {
-        put_best(settings, volume, xs, count, out);
+        put_best(steps, table, settings, volume, xs, count, out);
     }
 }

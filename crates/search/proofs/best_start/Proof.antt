@@ -13,22 +13,19 @@ use Rattle.search.proofs.best_start.Statement.{statement}
 use Rattle.search.proofs.best_start.Tie as tie
 
 abbrev Inv-loop : tie.InvT-loop
-Inv-loop steps settings volume count xs targets marks₀ trace₀ table best₀ turn₀ marks trace best turn =
+Inv-loop steps table settings volume count xs targets marks₀ trace₀ best₀ turn₀ marks trace best turn =
     Ahead settings volume (take count xs) count turn best marks × (length trace ≡ 63)
 
 abbrev μ-loop : tie.MeasureT-loop
-μ-loop steps settings volume count xs targets marks₀ trace₀ table best₀ turn₀ marks trace best turn =
+μ-loop steps table settings volume count xs targets marks₀ trace₀ best₀ turn₀ marks trace best turn =
     93 - turn
 
 -- the samples are at least as many as are meant
-room : (c : tie.Start Inv-loop μ-loop) → c .args .count ≤ length (c .args .t4)
-room c = omega (arith, good-length (eSInt w16) 63 (c .args .t4) _ (c .good .1 .1 .1 .0), c .pre .1)
-
-size-table-requires : tie.Need-size-table-requires Inv-loop μ-loop
-size-table-requires c κs = search needs
+room : (c : tie.Start Inv-loop μ-loop) → c .args .count ≤ length (c .args .t5)
+room c = omega (arith, good-length (eSInt w16) 63 (c .args .t5) _ (c .good .1 .1 .1 .1 .0), c .pre .0 .1)
 
 loop-holds : tie.Need-loop-holds Inv-loop μ-loop
-loop-holds c = (ahead-none _ _ _ _ (no-marks (c .before .args .count) (c .before .pre .1)), refl)
+loop-holds c = (ahead-none _ _ _ _ (no-marks (c .args .count) (c .pre .0 .1)), refl)
 
 start-of-requires : tie.Need-start-of-requires Inv-loop μ-loop
 start-of-requires c κs = omega arith
@@ -56,12 +53,11 @@ add-limit c = omega (arith, c .before .before .before .before .before .before .l
 
 trial-sum-requires : tie.Need-trial-sum-requires Inv-loop μ-loop
 trial-sum-requires c κs =
-    let t = c .before .before .before .before .before .before in
+    let t = c .before .before .before .before .before in
     let l = t .before .before .before .before .before .loop in
-    let m = t .before .before .before .before .before .before in
-    let s = m .before in (
-      (s .pre .0, s .pre .1, room s, s .pre .3),
-      (m .size-table .ensures, t .tie .ensures .small, l .inv .1, ahead-rival _ _ _ _ (l .inv .0) _),
+    let s = t .before .before .before .before .before .before in (
+      (s .pre .0 .0, s .pre .0 .1, room s, s .pre .0 .3),
+      (s .pre .1, t .tie .ensures .small, l .inv .1, ahead-rival _ _ _ _ (l .inv .0) _),
     )
 
 add-turn-2 : tie.Need-add-turn-2 Inv-loop μ-loop
@@ -73,7 +69,7 @@ loop-less-2 c = omega arith
 loop-again-2 : tie.Need-loop-again-2 Inv-loop μ-loop
 loop-again-2 c =
     let r = c .before .trial-sum .ensures in
-    let t = c .before .before .before .before .before .before .before .before in
+    let t = c .before .before .before .before .before .before .before in
     let n = t .before .before .before .start-of .ensures in
     let l = t .before .before .before .before .before .loop in
     let a = l .inv .0 in
@@ -88,8 +84,8 @@ loop-again-2 c =
 
 returns : tie.Need-returns Inv-loop μ-loop
 returns c =
-    let s = c .before .before .before in
-    ahead-all _ _ _ _ (length-take-le (s .args .count) (s .args .t4) (room s)) (c .before .loop .inv .0) (omega arith)
+    let s = c .before .before in
+    ahead-all _ _ _ _ (length-take-le (s .args .count) (s .args .t5) (room s)) (c .before .loop .inv .0) (omega arith)
 
 pub best-start-spec : {M : Type 1} → statement M
 best-start-spec =
@@ -97,7 +93,6 @@ best-start-spec =
     (tie.spec
     Inv-loop
     μ-loop
-    size-table-requires
     loop-holds
     start-of-requires
     is-tried-requires

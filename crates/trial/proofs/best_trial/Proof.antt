@@ -26,7 +26,7 @@ returns c =
     let f = c .before .before .best-start .ensures in
     let s = c .before .before .before .before in
     let a = s .args in
-    let room : a .count ≤ length (a .xs) = omega (arith, good-length (eSInt w16) 63 (a .xs) _ (s .good .1 .1 .1 .0), s .pre .1) in
+    let room : a .count ≤ length (a .xs) = omega (arith, good-length (eSInt w16) 63 (a .xs) _ (s .good .1 .1 .1 .1 .0), s .pre .2) in
     let e = best-from (a .settings) (a .volume) (take (a .count) (a .xs)) _ (a .count) (length-take-le (a .count) (a .xs) room) (f .0) in
     (f .0, (c .before .run-trial .ensures .0 ∙ ap (λ (t : Trial). t .codes) e, f .1))
 

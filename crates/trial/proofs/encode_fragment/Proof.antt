@@ -21,7 +21,7 @@ returns c =
     let p = c .before .before in
     let k = p .before .before .before in
     let s = k .before .before in
-    silent-bytes (s .args .settings) (now (s .args .samples)) _ _ refl refl _ (p .put-silence .ensures) (s .pre .1)
+    silent-bytes (s .args .settings) (now (s .args .samples)) _ _ refl refl _ (p .put-silence .ensures) (s .pre .3)
     (silent-volume _ _ (sym (k .peak-of .ensures .0) ∙ p .before .before .if1 .taken))
 
 pre-gained-requires : tie.Need-pre-gained-requires
@@ -51,7 +51,7 @@ returns-2 c =
     let v = p .before .before .before in
     let g = v .before .before in
     let s = g .before .before .before .before in
-    silent-bytes (s .args .settings) (now (s .args .samples)) _ _ (g .pre-gained .ensures) (v .fragment-volume .ensures) _ (p .put-silence2 .ensures) (s .pre .1)
+    silent-bytes (s .args .settings) (now (s .args .samples)) _ _ (g .pre-gained .ensures) (v .fragment-volume .ensures) _ (p .put-silence2 .ensures) (s .pre .3)
     (p .before .before .if2 .taken)
 
 same-length-3 : tie.Need-same-length-3

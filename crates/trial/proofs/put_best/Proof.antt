@@ -12,9 +12,6 @@ use Rattle.format.proofs.Trials.{best-wrote}
 use Rattle.trial.proofs.put_best.Statement.{statement}
 use Rattle.trial.proofs.put_best.Tie as tie
 
-steps-requires : tie.Need-steps-requires
-steps-requires c κs = search needs
-
 best-trial-requires : tie.Need-best-trial-requires
 best-trial-requires c κs = search needs
 
@@ -24,15 +21,15 @@ bits-requires c κs = search needs
 put-fragment-requires : tie.Need-put-fragment-requires
 put-fragment-requires c κs =
     let b = c .before .before .before in
-    let s = b .before .before .before .before in
+    let s = b .before .before in
     let v = s .args .settings .variant in
     let e = c .bits .ensures in (
       (
         omega (arith, e, bits-some v),
         omega (arith, e, bits-few v),
-        s .pre .0,
-        omega (arith, s .pre .2, payload-few v),
-        omega (arith, s .pre .2, payload-few v),
+        s .pre .2,
+        omega (arith, s .pre .4, payload-few v),
+        omega (arith, s .pre .4, payload-few v),
       ),
       rw (e, b .best-trial .ensures .1 .0) (best-wrote (s .args .settings) (s .args .volume) (take (s .args .count) (s .args .xs)) .small),
     )
@@ -45,10 +42,10 @@ unfolding fragmentBytes
 returns c =
     let p = c .before .before in
     let b = p .before .before .before .before in
-    let s = b .before .before .before .before in
-    let n : length (now (s .args .out)) - 2 ≡ payloadBytes (s .args .settings .variant) = omega (arith, s .pre .2) in
+    let s = b .before .before in
+    let n : length (now (s .args .out)) - 2 ≡ payloadBytes (s .args .settings .variant) = omega (arith, s .pre .4) in
     rw (p .put-fragment .ensures, p .before .bits .ensures, b .best-trial .ensures .0, b .best-trial .ensures .1 .0, n)
 
 pub put-best-spec : {M : Type 1} → statement M
 put-best-spec =
-    tie.close (tie.spec steps-requires best-trial-requires bits-requires put-fragment-requires same-length returns)
+    tie.close (tie.spec best-trial-requires bits-requires put-fragment-requires same-length returns)
