@@ -23,10 +23,12 @@ unpack-fragment-requires-2 c κs = search needs
 run-two-requires : tie.Need-run-two-requires
 run-two-requires c κs =
     let a = c .before .before .before .before .before .before .before .before .before .before .before .before .before .before .before .before .args in
-    let k = c .before .before .before .before .before .before .before .before .before .before .before .before .before .before .before .before .pre in (
+    let k = c .before .before .before .before .before .before .before .before .before .before .before .before .before .before .before .before .pre in
+    let first = start-in-range (a .version) (a .fragment .now) (a .states .first) (c .before .before .before .before .before .before .before .before .before .state-before .ensures) (k .1) in
+    let second = start-in-range (a .version) (a .other .now) (a .states .second) (c .before .before .before .before .before .before .before .before .state-before2 .ensures) (k .2) in (
       k .0,
-      start-in-range (a .version) (a .fragment .now) (a .states .first) (c .before .before .before .before .before .before .before .before .before .state-before .ensures) (k .1),
-      start-in-range (a .version) (a .other .now) (a .states .second) (c .before .before .before .before .before .before .before .before .state-before2 .ensures) (k .2),
+      search needs,
+      search needs,
       codes-small (a .version) (a .variant) (a .fragment .now) (c .before .before .before .before .before .before .unpack-fragment .ensures),
       codes-small (a .version) (a .variant) (a .other .now) (c .before .before .before .before .unpack-fragment2 .ensures),
       few (a .version) (a .n) (k .5),
