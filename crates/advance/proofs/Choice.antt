@@ -1,12 +1,9 @@
 -- The L and L+ step on raised numbers: the eight candidates, the code that is chosen, and the state after it. Assumes nothing.
 use mathlib.Core.Path.{_≡_, refl, sym, _∙_, ap}
 use mathlib.Core.Bool.{Bool, true, false, cond}
-use mathlib.Core.List.{[], _∷_}
 use Prim.Native.Nat.{ℕ, zero, suc, _+_, _-_, _*_, _/_, _%_, _≤_, _<_, min}
 use native.Mathlib.Decide.{decLt}
 use native.Mathlib.Omega.{arith}
-use types.Run.{OneOf, miss}
-use denote.Enum.Declared.{tagOf}
 use lib.Dec.{ltb}
 use lib.IntN.{ℤ}
 use lib.Signed.{mag}
@@ -22,18 +19,11 @@ use Rattle.format.specs.declared.State.{State}
 use Rattle.format.specs.declared.Variant.{Variant}
 use Rattle.format.specs.declared.Variant.the-variants.{H, L, LPlus}
 use Rattle.format.proofs.Range.{stepped-range}
-use Rattle.format.proofs.Variant.{the-type}
 use Rattle.adpcm.proofs.Bounds.{difference-three, adjustment-three, step-low}
 use Rattle.advance.specs.declared.Sizes.{Sizes}
 use Rattle.advance.specs.Advance.{Sized, Landed}
 use Rattle.advance.proofs.Cascade.{index-moved}
 use Rattle.advance.proofs.Nearest.{apart, Chosen, chosen, Lowest, cut, rises, differ, first-only, up-near, up-far, down-near, down-far}
-
--- what `if let Variant::L = variant { .. } else { .. }` knows in its second arm
-pub is-l-plus : (variant : Variant) → OneOf (0 ∷ 2 ∷ []) (tagOf the-type variant) → bits variant ≡ 3 → variant ≡ LPlus
-is-l-plus H o e = let z : ⊥ = omega arith in absurd z
-is-l-plus L o e = absurd (miss (0 ∷ 2 ∷ []) 1 tt o)
-is-l-plus LPlus o e = refl
 
 -- ---- the four sizes grow
 

@@ -1,5 +1,5 @@
-// The state after the code that the encoder chooses, without the code: for H no jump is taken, for L and L+ three comparisons stand
-// for the eight candidates.
+// The state after the code that the encoder chooses, without the code: for H by what is left of the distance, for L and L+ by three
+// comparisons instead of eight candidates.
 ghost use mathlib.Core.Path.{_≡_};
 ghost use Prim.Native.Nat.{_+_, _-_, _<_, _≤_, min};
 ghost use mathlib.Core.Bool.{cond};
@@ -60,7 +60,7 @@ fn one_less(n: usize) -> usize
     if 0 < n { n - 1 } else { 0 }
 }
 
-// Internal: the index moved up, to at most 88, or down by 1, to at least 0. Both are made first, so that no jump is taken.
+// Internal: the index moved up, to at most 88, or down by 1, to at least 0.
 fn moved(index: usize, up: bool, by: usize) -> usize
     requires { ⌜ (index ≤ 88) × (by ≤ 88) ⌝ }
     ensures { λ r. ⌜ r ≡ cond up (min (index + by) 88) (index - 1) ⌝ }

@@ -1,5 +1,5 @@
 -- A division by 255 by the halves of 257 times the number, since 257 * 255 is 65535; and a sign by the depth. Assumes nothing.
-use Prim.Native.Nat.{ℕ, zero, suc, _+_, _-_, _*_, _/_, _%_, _^_, _≤_, _<_}
+use Prim.Native.Nat.{ℕ, zero, suc, _+_, _-_, _*_, _/_, _%_, _≤_, _<_}
 use native.Mathlib.Nat.{mul-left-comm, mul-add-mod-self-left}
 use native.Mathlib.Omega.{arith}
 use mathlib.Core.Path.{_≡_, refl, sym, ap, _∙_}
@@ -19,9 +19,6 @@ module _ (z : ℕ) where
       sym (ap (_% 65536) e ∙ mul-add-mod-self-left 65536 (257 * (z / 65536) + z % 65536 / 256) (z % 65536 + z % 65536 % 256 * 256))
 
   module _ (half : ℕ) (hz : z ≤ 8355840) (hh : half ≤ 127) where
-    pub high-small : 257 * z / 65536 ≤ 32767
-    high-small = omega arith
-
     pub rounds-up : 65535 - 257 * half - 257 * z / 65536 ≤ 257 * z % 65536 → 257 * z / 65536 + 1 ≡ (z + half) / 255
     rounds-up l = omega arith
 

@@ -19,7 +19,7 @@ pub struct Point {
 }
 
 // Entries of a row: one for each code.
-pub fn row_size(variant: Variant) -> usize
+fn row_size(variant: Variant) -> usize
     ensures { λ r. ⌜ r ≡ 2 ^ bits variant ⌝ }
 {
     match variant {

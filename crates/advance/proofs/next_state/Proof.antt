@@ -1,5 +1,4 @@
 -- `advance::next_state` meets its contract. Assumes nothing.
-use mathlib.Core.Path.{sym}
 use borrow.Author.Needs.{needs}
 use Rattle.signed.proofs.Laws.{read16}
 use Rattle.format.proofs.Sizes.{three-bits}

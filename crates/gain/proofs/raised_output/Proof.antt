@@ -2,7 +2,6 @@
 use Prim.Native.Nat.{_*_, _≤_}
 use native.Mathlib.Nat.{mul-le-mul-right}
 use native.Mathlib.Omega.{arith}
-use mathlib.Core.Path.{ap, _∙_}
 use borrow.Author.Needs.{needs}
 use Rattle.signed.proofs.Laws.{read16}
 use Rattle.gain.proofs.Raised.{raised-gain}

@@ -1,5 +1,5 @@
 -- `gain::scaled_in_halves` meets its contract. Assumes nothing.
-use Prim.Native.Nat.{_≤_, _+_, _*_, _/_}
+use Prim.Native.Nat.{_+_, _*_, _/_}
 use native.Mathlib.Omega.{arith}
 use mathlib.Core.Path.{_≡_, _∙_}
 use lib.IntN.{natAbs}
