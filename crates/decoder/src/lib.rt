@@ -108,21 +108,21 @@ fn decode_places(
     p: usize,
     states: Two,
     samples: &mut [i16; 64],
-    others: &mut [i16; 64],
+    samples2: &mut [i16; 64],
 ) -> Two
     requires { ⌜ Lookup (h .version) (h .variant) (now differences) (now nexts) × (0 < h .channels) × (length (now file) ≡ streamLength h)
         × (p + 1 < frames h * h .channels) × InStep h p × InRange (states .first) × InRange (states .second)
-        × (length (now samples) ≡ 64) × (length (now others) ≡ 64) ⌝ }
+        × (length (now samples) ≡ 64) × (length (now samples2) ≡ 64) ⌝ }
     ensures { λ r. ⌜ (take (count h (p / h .channels)) (now (samples .exit)) ≡ placeDecoded h (now (file .entry)) p (states .first) .samples)
         × (r .first ≡ placeDecoded h (now (file .entry)) p (states .first) .state)
-        × (take (count h ((p + 1) / h .channels)) (now (others .exit)) ≡ placeDecoded h (now (file .entry)) (p + 1) (states .second) .samples)
+        × (take (count h ((p + 1) / h .channels)) (now (samples2 .exit)) ≡ placeDecoded h (now (file .entry)) (p + 1) (states .second) .samples)
         × (r .second ≡ placeDecoded h (now (file .entry)) (p + 1) (states .second) .state) ⌝ }
 {
     let variant = h.variant;
     let channels = h.channels as usize;
     let n = layout::count_at(h, p / channels);
     let fragment = layout::fragment_at(file, h, p);
-    let other = layout::fragment_at(file, h, p + 1);
+    let fragment2 = layout::fragment_at(file, h, p + 1);
     player::play_two(
         h.version,
         variant,
@@ -130,10 +130,10 @@ fn decode_places(
         nexts,
         states,
         fragment,
-        other,
+        fragment2,
         n,
         samples,
-        others,
+        samples2,
     )
 }
 
@@ -208,7 +208,7 @@ fn decode_two(
 }
 
 // How many of the fragments are decoded two at a time: all but an odd last one where the two channels of a frame, or any two
-// fragments of version 3, do not wait for each other.
+// fragments of version 3, do not wait for each fragment2.
 fn paired(h: Header, fragments: usize) -> usize
     ensures { λ r. ⌜ (r ≤ fragments) × (r % 2 ≡ 0) × (h .channels ≡ 2 → fragments < r + 2) × ((p : ℕ) → p % 2 ≡ 0 → p < r → InStep h p) ⌝ }
 {

@@ -127,18 +127,18 @@ fn run_two(
     nexts: &[u16],
     states: Two,
     codes: &[u8; 64],
-    others: &[u8; 64],
+    codes2: &[u8; 64],
     n: usize,
     depths: &mut [u16; 64],
-    seconds: &mut [u16; 64],
+    depths2: &mut [u16; 64],
 ) -> Two
     requires { ⌜ Lookup version variant (now differences) (now nexts) × InRange (states .first) × InRange (states .second)
-        × ((i : ℕ) → getD (now codes) i 0 < 2 ^ bits variant) × ((i : ℕ) → getD (now others) i 0 < 2 ^ bits variant)
-        × (n ≤ 64) × (length (now depths) ≡ 64) × (length (now seconds) ≡ 64) ⌝ }
+        × ((i : ℕ) → getD (now codes) i 0 < 2 ^ bits variant) × ((i : ℕ) → getD (now codes2) i 0 < 2 ^ bits variant)
+        × (n ≤ 64) × (length (now depths) ≡ 64) × (length (now depths2) ≡ 64) ⌝ }
     ensures { λ r. ⌜ (r .first ≡ after version variant (now (codes .entry)) (states .first) n)
         × (take n (now (depths .exit)) ≡ tabulate (depthAt version variant (now (codes .entry)) (states .first)) n)
-        × (r .second ≡ after version variant (now (others .entry)) (states .second) n)
-        × (take n (now (seconds .exit)) ≡ tabulate (depthAt version variant (now (others .entry)) (states .second)) n) ⌝ }
+        × (r .second ≡ after version variant (now (codes2 .entry)) (states .second) n)
+        × (take n (now (depths2 .exit)) ≡ tabulate (depthAt version variant (now (codes2 .entry)) (states .second)) n) ⌝ }
 {
     let first = states.first;
     let second = states.second;
@@ -147,7 +147,7 @@ fn run_two(
     let mut i = 0;
     while i < n {
         s = turn(s, codes[i], differences, nexts, i, depths);
-        t = turn(t, others[i], differences, nexts, i, seconds);
+        t = turn(t, codes2[i], differences, nexts, i, depths2);
         i += 1;
     }
     Two {
@@ -249,32 +249,32 @@ pub fn play_two(
     nexts: &[u16],
     states: Two,
     fragment: &[u8],
-    other: &[u8],
+    fragment2: &[u8],
     n: usize,
     samples: &mut [i16; 64],
-    others: &mut [i16; 64],
+    samples2: &mut [i16; 64],
 ) -> Two
     requires { ⌜ Lookup version variant (now differences) (now nexts) × InRange (states .first) × InRange (states .second)
-        × (length (now fragment) ≡ fragmentSize version variant) × (length (now other) ≡ fragmentSize version variant)
-        × (n ≤ frameSamples version) × (length (now samples) ≡ 64) × (length (now others) ≡ 64) ⌝ }
+        × (length (now fragment) ≡ fragmentSize version variant) × (length (now fragment2) ≡ fragmentSize version variant)
+        × (n ≤ frameSamples version) × (length (now samples) ≡ 64) × (length (now samples2) ≡ 64) ⌝ }
     ensures { λ r. ⌜ (r .first ≡ decodedFragment version variant (states .first) (now (fragment .entry)) n .state)
         × (take n (now (samples .exit)) ≡ decodedFragment version variant (states .first) (now (fragment .entry)) n .samples)
-        × (r .second ≡ decodedFragment version variant (states .second) (now (other .entry)) n .state)
-        × (take n (now (others .exit)) ≡ decodedFragment version variant (states .second) (now (other .entry)) n .samples) ⌝ }
+        × (r .second ≡ decodedFragment version variant (states .second) (now (fragment2 .entry)) n .state)
+        × (take n (now (samples2 .exit)) ≡ decodedFragment version variant (states .second) (now (fragment2 .entry)) n .samples) ⌝ }
 {
     let first = states.first;
     let second = states.second;
     let start = state_before(version, first, fragment);
-    let other_start = state_before(version, second, other);
+    let start2 = state_before(version, second, fragment2);
     let mut codes = [0u8; 64];
     unpack_fragment(version, variant, fragment, &mut codes);
-    let mut other_codes = [0u8; 64];
-    unpack_fragment(version, variant, other, &mut other_codes);
+    let mut codes2 = [0u8; 64];
+    unpack_fragment(version, variant, fragment2, &mut codes2);
     let mut depths = [0u16; 64];
-    let mut other_depths = [0u16; 64];
+    let mut depths2 = [0u16; 64];
     let starts = Two {
         first: start,
-        second: other_start,
+        second: start2,
     };
     let ends = run_two(
         version,
@@ -283,17 +283,17 @@ pub fn play_two(
         nexts,
         starts,
         &codes,
-        &other_codes,
+        &codes2,
         n,
         &mut depths,
-        &mut other_depths,
+        &mut depths2,
     );
     apply_volume(version, &depths, fragment[0], samples);
-    apply_volume(version, &other_depths, other[0], others);
+    apply_volume(version, &depths2, fragment2[0], samples2);
     let end = ends.first;
-    let other_end = ends.second;
+    let end2 = ends.second;
     Two {
         first: state_after(version, first, end),
-        second: state_after(version, second, other_end),
+        second: state_after(version, second, end2),
     }
 }

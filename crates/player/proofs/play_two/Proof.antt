@@ -25,12 +25,12 @@ run-two-requires c κs =
     let a = c .before .before .before .before .before .before .before .before .before .before .before .before .before .before .before .before .args in
     let k = c .before .before .before .before .before .before .before .before .before .before .before .before .before .before .before .before .pre in
     let first = start-in-range (a .version) (a .fragment .now) (a .states .first) (c .before .before .before .before .before .before .before .before .before .state-before .ensures) (k .1) in
-    let second = start-in-range (a .version) (a .other .now) (a .states .second) (c .before .before .before .before .before .before .before .before .state-before2 .ensures) (k .2) in (
+    let second = start-in-range (a .version) (a .fragment2 .now) (a .states .second) (c .before .before .before .before .before .before .before .before .state-before2 .ensures) (k .2) in (
       k .0,
       search needs,
       search needs,
       codes-small (a .version) (a .variant) (a .fragment .now) (c .before .before .before .before .before .before .unpack-fragment .ensures),
-      codes-small (a .version) (a .variant) (a .other .now) (c .before .before .before .before .unpack-fragment2 .ensures),
+      codes-small (a .version) (a .variant) (a .fragment2 .now) (c .before .before .before .before .unpack-fragment2 .ensures),
       few (a .version) (a .n) (k .5),
       refl,
       refl,
@@ -65,8 +65,8 @@ returns c =
     let r = c .before .before .before .before .before .before .before .before .before .before .before .before .run-two .ensures in (
       played-state (a .version) (a .variant) (a .fragment .now) (a .states .first) (a .n) (k .5) es ec (r .0) (c .before .state-after .ensures),
       played-samples (a .version) (a .variant) (a .fragment .now) (a .states .first) (a .n) (k .5) es ec _ (r .1) (c .before .before .before .before .before .before .before .before .apply-volume .ensures),
-      played-state (a .version) (a .variant) (a .other .now) (a .states .second) (a .n) (k .5) es2 ec2 (r .2) (c .state-after2 .ensures),
-      played-samples (a .version) (a .variant) (a .other .now) (a .states .second) (a .n) (k .5) es2 ec2 _ (r .3) (c .before .before .before .before .apply-volume2 .ensures),
+      played-state (a .version) (a .variant) (a .fragment2 .now) (a .states .second) (a .n) (k .5) es2 ec2 (r .2) (c .state-after2 .ensures),
+      played-samples (a .version) (a .variant) (a .fragment2 .now) (a .states .second) (a .n) (k .5) es2 ec2 _ (r .3) (c .before .before .before .before .apply-volume2 .ensures),
     )
 
 pub play-two-spec : {M : Type 1} → statement M

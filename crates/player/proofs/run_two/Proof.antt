@@ -8,11 +8,11 @@ use Rattle.player.proofs.run_two.Statement.{statement}
 use Rattle.player.proofs.run_two.Tie as tie
 
 abbrev Inv-loop : tie.InvT-loop
-Inv-loop version variant differences nexts codes others n depths₀ seconds₀ s₀ t₀ i₀ depths seconds s t i =
-    (i ≤ n) × Ran version variant codes (stateOf variant s₀) i depths s × Ran version variant others (stateOf variant t₀) i seconds t
+Inv-loop version variant differences nexts codes codes2 n depths₀ depths2₀ s₀ t₀ i₀ depths depths2 s t i =
+    (i ≤ n) × Ran version variant codes (stateOf variant s₀) i depths s × Ran version variant codes2 (stateOf variant t₀) i depths2 t
 
 abbrev μ-loop : tie.MeasureT-loop
-μ-loop version variant differences nexts codes others n depths₀ seconds₀ s₀ t₀ i₀ depths seconds s t i =
+μ-loop version variant differences nexts codes codes2 n depths₀ depths2₀ s₀ t₀ i₀ depths depths2 s t i =
     n - i
 
 keep-requires : tie.Need-keep-requires Inv-loop μ-loop
