@@ -16,13 +16,13 @@ ghost use Rattle.format.specs.Decode.{startState, after, decodedFragment, InRan
 ghost use Rattle.lookup.specs.Lookup.{Lookup, looked};
 ghost use Rattle.player.specs.Play.{depthAt};
 
-// Internal: codes of 4 bits, two in a byte.
+// Internal: codes of 4 bits, two in a byte. The loop's end is no constant, so that sixteen bytes are unpacked at a time.
 fn unpack_fours(payload: &[u8], codes: &mut [u8; 64])
     requires { ⌜ (length (now payload) ≡ 32) × (length (now codes) ≡ 64) ⌝ }
     ensures { λ _. ⌜ now (codes .exit) ≡ unpacked 4 64 (now (payload .entry)) ⌝ }
 {
     let mut i = 0;
-    while i < 32 {
+    while i < payload.len() {
         let b = payload[i];
         codes[2 * i] = b % 16;
         codes[2 * i + 1] = b / 16;
