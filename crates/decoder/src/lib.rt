@@ -11,8 +11,7 @@ ghost use mathlib.Core.Path.{_≡_};
 ghost use Prim.Native.Nat.{ℕ, _+_, _*_, _/_, _%_, _<_, _≤_};
 ghost use lib.IntN.{pos};
 ghost use lib.ListN.{length, take};
-ghost use Rattle.format.specs.Layout.{bits, frames, count, streamLength};
-ghost use Rattle.format.specs.declared.Variant.the-variants as variants;
+ghost use Rattle.format.specs.Layout.{frames, count, streamLength};
 ghost use Rattle.format.specs.Decode.{InRange};
 ghost use Rattle.format.specs.Answers.{AsDecoded};
 ghost use Rattle.lookup.specs.Lookup.{Lookup};
@@ -247,39 +246,32 @@ fn decode_fragments(file: &[u8], h: Header, differences: &[u32], nexts: &[u16], 
     }
 }
 
-// Internal: the same with the tables of H.
-fn decode_h(file: &[u8], h: Header, out: &mut [i16])
-    requires { ⌜ (0 < h .channels) × (h .channels ≤ 2) × (length (now file) ≡ streamLength h) × (h .samples * h .channels ≤ length (now out)) ⌝ }
-    requires { ⌜ h .variant ≡ variants.H ⌝ }
-    ensures { λ _. ⌜ now (out .exit) ≡ loopOut h (now (file .entry)) startStates (now (out .entry)) (frames h * h .channels) ⌝ }
-{
-    let differences = lookup::tables::h_differences();
-    let nexts = lookup::tables::h_nexts();
-    decode_fragments(file, h, &differences, &nexts, out);
-}
-
-// Internal: the same with the tables of L or L+.
-fn decode_three_bit(file: &[u8], h: Header, out: &mut [i16])
-    requires { ⌜ (0 < h .channels) × (h .channels ≤ 2) × (length (now file) ≡ streamLength h) × (h .samples * h .channels ≤ length (now out)) ⌝ }
-    requires { ⌜ bits (h .variant) ≡ 3 ⌝ }
-    ensures { λ _. ⌜ now (out .exit) ≡ loopOut h (now (file .entry)) startStates (now (out .entry)) (frames h * h .channels) ⌝ }
-{
-    let variant = h.variant;
-    let differences = lookup::tables::three_bit_differences(h.version, variant);
-    let nexts = lookup::tables::l_nexts();
-    decode_fragments(file, h, &differences, &nexts, out);
-}
-
 // Internal: the same with the tables of the stream's variant and version.
 fn decode_stream(file: &[u8], h: Header, out: &mut [i16])
     requires { ⌜ (0 < h .channels) × (h .channels ≤ 2) × (length (now file) ≡ streamLength h) × (h .samples * h .channels ≤ length (now out)) ⌝ }
     ensures { λ _. ⌜ now (out .exit) ≡ loopOut h (now (file .entry)) startStates (now (out .entry)) (frames h * h .channels) ⌝ }
 {
     let variant = h.variant;
-    if let Variant::H = variant {
-        decode_h(file, h, out);
-    } else {
-        decode_three_bit(file, h, out);
+    match variant {
+        Variant::H => {
+            let differences = lookup::tables::h_differences();
+            let nexts = lookup::tables::h_nexts();
+            decode_fragments(file, h, &differences, &nexts, out);
+        }
+        Variant::L => {
+            let differences = lookup::tables::l_differences();
+            let nexts = lookup::tables::l_nexts();
+            decode_fragments(file, h, &differences, &nexts, out);
+        }
+        Variant::LPlus => if h.version == 1 {
+            let differences = lookup::tables::legacy_l_plus_differences();
+            let nexts = lookup::tables::l_nexts();
+            decode_fragments(file, h, &differences, &nexts, out);
+        } else {
+            let differences = lookup::tables::l_plus_differences();
+            let nexts = lookup::tables::l_nexts();
+            decode_fragments(file, h, &differences, &nexts, out);
+        }
     }
 }
 

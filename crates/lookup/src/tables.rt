@@ -1,12 +1,10 @@
 // The tables of the steps, a row of entries for each index 0..=88, with an entry for each code: the difference that the code stands
 // for, raised by 131071, and where the row of the next index begins. Each is to be bound once above the loops and lent down: each use
 // of a constant array makes it anew.
-use format::Variant;
 ghost use Prim.Native.Nat.{ℕ};
 ghost use mathlib.Core.Path.{_≡_};
 ghost use mathlib.Core.Bool.{false};
 ghost use lib.Dec.{eqb};
-ghost use Rattle.format.specs.Layout.{bits};
 ghost use Rattle.format.specs.declared.Variant.the-variants as variants;
 ghost use Rattle.lookup.specs.Lookup.{Rows, differenceRule, nextRule};
 
@@ -18,38 +16,24 @@ pub fn h_differences() -> [u32; 1424]
 }
 
 // The differences of L.
-fn l_differences() -> [u32; 712]
+pub fn l_differences() -> [u32; 712]
     ensures { λ r. ⌜ ((version : ℕ) → Rows 8 (differenceRule version variants.L) r) ⌝ }
 {
     L_DIFFERENCES
 }
 
 // The differences of L+ but in version 1.
-fn l_plus_differences() -> [u32; 712]
+pub fn l_plus_differences() -> [u32; 712]
     ensures { λ r. ⌜ ((version : ℕ) → eqb version 1 ≡ false → Rows 8 (differenceRule version variants.LPlus) r) ⌝ }
 {
     L_PLUS_DIFFERENCES
 }
 
 // The differences of L+ in version 1.
-fn legacy_l_plus_differences() -> [u32; 712]
+pub fn legacy_l_plus_differences() -> [u32; 712]
     ensures { λ r. ⌜ Rows 8 (differenceRule 1 variants.LPlus) r ⌝ }
 {
     LEGACY_L_PLUS_DIFFERENCES
-}
-
-// Internal: the differences of L or L+ in a version.
-pub fn three_bit_differences(version: u8, variant: Variant) -> [u32; 712]
-    requires { ⌜ bits variant ≡ 3 ⌝ }
-    ensures { λ r. ⌜ Rows 8 (differenceRule version variant) r ⌝ }
-{
-    if let Variant::L = variant {
-        return l_differences();
-    }
-    if version == 1 {
-        return legacy_l_plus_differences();
-    }
-    l_plus_differences()
 }
 
 // The next rows of H.
