@@ -315,16 +315,20 @@ impl Bench {
                     },
                     || wav::read_pcm16_wave(&file).unwrap().samples,
                 );
-                self.race(
-                    "WAV write",
-                    Input { words: vec![channels_word(channels).to_string()], seconds, samples: samples.len() },
-                    || {
-                        let mut out = vec![0; 44 + 2 * samples.len()];
-                        ours::write_wave(channels, RATE, &samples, &mut out);
-                        std::fs::write(&path, out).unwrap();
-                    },
-                    || convert::write(&path, channels, RATE, &samples),
-                );
+                let ours = || {
+                    let mut out = vec![0; 44 + 2 * samples.len()];
+                    ours::write_wave(channels, RATE, &samples, &mut out);
+                    std::fs::write(&path, out).unwrap();
+                };
+                let rust = || convert::write(&path, channels, RATE, &samples);
+                // Nothing is returned, so the files themselves are compared.
+                let written = |write: &dyn Fn()| {
+                    write();
+                    std::fs::read(&path).unwrap()
+                };
+                assert!(written(&ours) == written(&rust), "WAV write: the two sides differ");
+                let words = vec![channels_word(channels).to_string()];
+                self.race("WAV write", Input { words, seconds, samples: samples.len() }, ours, rust);
             }
         }
         std::fs::remove_file(&path).unwrap();

@@ -11,102 +11,69 @@ use Rattle.advance.proofs.Nearest.{Chosen, cut}
 use Rattle.advance.proofs.Choice.{sizeAt, sized-order, l-chosen, l-stepped}
 use Rattle.advance.proofs.l_next.Statement.{statement}
 use Rattle.advance.proofs.l_next.Tie as tie
-use Rattle.advance.proofs.l_next.Reads as reads
-use Rattle.advance.proofs.l_next.Lts as lts
-use Rattle.advance.proofs.count_of.Reads as count-of-reads
-use Rattle.advance.proofs.gap.Reads as gap-reads
-use Rattle.advance.proofs.l_landed.Reads as l-landed-reads
-use Rattle.advance.proofs.moved.Reads as moved-reads
-use Rattle.advance.proofs.pick.Reads as pick-reads
-use Rattle.advance.proofs.room.Reads as room-reads
-use Rattle.advance.proofs.sizes_at.Reads as sizes-at-reads
-use Rattle.advance.proofs.within.Reads as within-reads
-use Rattle.signed.proofs.lower.Reads as lower-reads
-use Rattle.signed.proofs.raise.Reads as raise-reads
 
--- src/lib.rt:219:9
 raise-requires : tie.Need-raise-requires
 raise-requires c κs = search needs
 
--- src/lib.rt:220:9
 raise-requires-2 : tie.Need-raise-requires-2
 raise-requires-2 c κs = search needs
 
--- src/lib.rt:221:21
 gap-requires : tie.Need-gap-requires
 gap-requires c κs = search needs
 
--- src/lib.rt:221:17
 mul-twice : tie.Need-mul-twice
 mul-twice c = search needs
 
--- src/lib.rt:222:9
 room-requires : tie.Need-room-requires
 room-requires c κs = search needs
 
--- src/lib.rt:223:24
 sizes-at-requires : tie.Need-sizes-at-requires
 sizes-at-requires c κs = search needs
 
--- src/lib.rt:223:9
 within-requires : tie.Need-within-requires
 within-requires c κs =
     let s = c .before .before .before .before .before .before in
     sized-order (s .args .variant) (stepAt (s .args .state .index)) (s .pre .3) (step-low (s .args .state .index) (s .pre .1 .index)) (c .sizes-at .ensures)
 
--- src/lib.rt:228:22
 add-count-of : tie.Need-add-count-of
 add-count-of c = search needs
 
--- src/lib.rt:228:13
 count-of-requires : tie.Need-count-of-requires
 count-of-requires c κs = search needs
 
--- src/lib.rt:228:51
 add-count-of-2 : tie.Need-add-count-of-2
 add-count-of-2 c = search needs
 
--- src/lib.rt:228:42
 count-of-requires-2 : tie.Need-count-of-requires-2
 count-of-requires-2 c κs = search needs
 
--- src/lib.rt:228:13
 add-m : tie.Need-add-m
 add-m c = search needs
 
--- src/lib.rt:228:80
 add-count-of-3 : tie.Need-add-count-of-3
 add-count-of-3 c = search needs
 
--- src/lib.rt:228:71
 count-of-requires-3 : tie.Need-count-of-requires-3
 count-of-requires-3 c κs = search needs
 
--- src/lib.rt:228:13
 add-m-2 : tie.Need-add-m-2
 add-m-2 c = search needs
 
--- src/lib.rt:230:9
 add-pick : tie.Need-add-pick
 add-pick c = search needs
 
--- src/lib.rt:232:14
 add-pick-2 : tie.Need-add-pick-2
 add-pick-2 c = search needs
 
--- src/lib.rt:232:37
 add-pick-3 : tie.Need-add-pick-3
 add-pick-3 c = search needs
 
--- src/lib.rt:232:32
 pick-requires : tie.Need-pick-requires
 pick-requires c κs = search needs
 
--- src/lib.rt:232:9
 pick-requires-2 : tie.Need-pick-requires-2
 pick-requires-2 c κs = search needs
 
--- src/lib.rt:229:9
 pick-requires-3 : tie.Need-pick-requires-3
 pick-requires-3 c κs = search needs
 
@@ -136,7 +103,6 @@ known c =
     (omega (arith, c .before .before .before .before .before .count-of .ensures .0, c .before .before .before .before .count-of2 .ensures .0, c .before .before .before .count-of3 .ensures .0))
     (rw (c .pick3 .ensures, c .before .pick2 .ensures, c .before .before .pick .ensures))
 
--- src/lib.rt:235:34
 l-landed-requires : tie.Need-l-landed-requires
 l-landed-requires c κs =
     let m = c .before .before .before .before .before .before .before .before .room .ensures in
@@ -147,23 +113,18 @@ l-landed-requires c κs =
       (λ l. omega (arith, v, m .1 l)),
     )
 
--- src/lib.rt:235:20
 lower-requires : tie.Need-lower-requires
 lower-requires c κs = search needs
 
--- src/lib.rt:236:29
 add-moved : tie.Need-add-moved
 add-moved c = search needs
 
--- src/lib.rt:236:44
 mul-moved : tie.Need-mul-moved
 mul-moved c = search needs
 
--- src/lib.rt:236:16
 moved-requires : tie.Need-moved-requires
 moved-requires c κs = (c .before .before .before .before .before .before .before .before .before .before .before .before .before .before .before .pre .1 .index, omega (arith, known (c .before .before) .within))
 
--- src/lib.rt:213:1
 returns : tie.Need-returns
 returns c =
     let k = c .before .before .before in

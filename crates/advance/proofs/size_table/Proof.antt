@@ -1,3 +1,4 @@
+-- `advance::size_table` meets its contract. Assumes nothing.
 use Rattle.advance.proofs.Rows.{Made, made-none, made-more, made-all}
 use borrow.Author.Needs.{needs}
 use mathlib.Core.Path.{refl}
@@ -5,11 +6,6 @@ use native.Mathlib.Omega.{arith}
 use Prim.Native.Nat.{_-_}
 use Rattle.advance.proofs.size_table.Statement.{statement}
 use Rattle.advance.proofs.size_table.Tie as tie
-use Rattle.advance.proofs.size_table.Reads as reads
-use Rattle.advance.proofs.size_table.Lts as lts
-use Rattle.adpcm.proofs.level.Reads as level-reads
-use Rattle.adpcm.proofs.step_size.Reads as step-size-reads
-use Rattle.advance.proofs.l_size.Reads as l-size-reads
 
 abbrev Inv-loop : tie.InvT-loop
 Inv-loop steps variant table₀ k₀ table k = Made variant k table
@@ -17,47 +13,36 @@ Inv-loop steps variant table₀ k₀ table k = Made variant k table
 abbrev μ-loop : tie.MeasureT-loop
 μ-loop steps variant table₀ k₀ table k = 356 - k
 
--- src/lib.rt:140:5
 loop-holds : tie.Need-loop-holds Inv-loop μ-loop
 loop-holds c = made-none _ refl
 
--- src/lib.rt:141:52
 cast-level : tie.Need-cast-level Inv-loop μ-loop
 cast-level c = omega arith
 
--- src/lib.rt:141:13
 level-requires : tie.Need-level-requires Inv-loop μ-loop
 level-requires c κs = search needs
 
--- src/lib.rt:142:13
 step-size-requires : tie.Need-step-size-requires Inv-loop μ-loop
 step-size-requires c κs = (search needs, omega (arith, c .before .before .loop .inv .within))
 
--- src/lib.rt:143:20
 l-size-requires : tie.Need-l-size-requires Inv-loop μ-loop
 l-size-requires c κs = (c .before .level .ensures .1, c .step-size .ensures .2)
 
--- src/lib.rt:143:9
 mul-table : tie.Need-mul-table Inv-loop μ-loop
 mul-table c = omega arith
 
--- src/lib.rt:143:9
 array-write-table : tie.Need-array-write-table Inv-loop μ-loop
 array-write-table c = omega arith
 
--- src/lib.rt:144:9
 add-k : tie.Need-add-k Inv-loop μ-loop
 add-k c = omega arith
 
--- src/lib.rt:140:5
 loop-less : tie.Need-loop-less Inv-loop μ-loop
 loop-less c = omega arith
 
--- src/lib.rt:140:5
 loop-again : tie.Need-loop-again Inv-loop μ-loop
 loop-again c = made-more _ (c .before .before .before .before .loop .inv) (omega arith) (rw (c .l-size .ensures .0, c .before .before .level .ensures .0, c .before .step-size .ensures .0))
 
--- src/lib.rt:134:1
 returns : tie.Need-returns Inv-loop μ-loop
 returns c = made-all _ (c .before .loop .inv) (omega arith)
 

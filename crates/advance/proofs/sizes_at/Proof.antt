@@ -1,3 +1,4 @@
+-- `advance::sizes_at` meets its contract. Assumes nothing.
 use Rattle.advance.proofs.Rows.{row-at}
 use mathlib.Core.Path.{_≡_, _∙_, ap}
 use Prim.Native.Nat.{_+_, _*_}
@@ -6,58 +7,43 @@ use native.Mathlib.Omega.{arith}
 use borrow.Author.Needs.{needs}
 use Rattle.advance.proofs.sizes_at.Statement.{statement}
 use Rattle.advance.proofs.sizes_at.Tie as tie
-use Rattle.advance.proofs.sizes_at.Reads as reads
-use Rattle.advance.proofs.sizes_at.Lts as lts
 
--- src/lib.rt:154:15
 mul-row : tie.Need-mul-row
 mul-row c = search needs
 
--- src/lib.rt:156:12
 mul-t5 : tie.Need-mul-t5
 mul-t5 c = search needs
 
--- src/lib.rt:156:12
 element-copy-out-t8 : tie.Need-element-copy-out-t8
 element-copy-out-t8 c = search needs
 
--- src/lib.rt:157:18
 add-t9 : tie.Need-add-t9
 add-t9 c = search needs
 
--- src/lib.rt:157:12
 mul-t10 : tie.Need-mul-t10
 mul-t10 c = search needs
 
--- src/lib.rt:157:12
 element-copy-out-t13 : tie.Need-element-copy-out-t13
 element-copy-out-t13 c = search needs
 
--- src/lib.rt:158:18
 add-t14 : tie.Need-add-t14
 add-t14 c = search needs
 
--- src/lib.rt:158:12
 mul-t15 : tie.Need-mul-t15
 mul-t15 c = search needs
 
--- src/lib.rt:158:12
 element-copy-out-t18 : tie.Need-element-copy-out-t18
 element-copy-out-t18 c = search needs
 
--- src/lib.rt:159:18
 add-t19 : tie.Need-add-t19
 add-t19 c = search needs
 
--- src/lib.rt:159:12
 mul-t20 : tie.Need-mul-t20
 mul-t20 c = search needs
 
--- src/lib.rt:159:12
 element-copy-out-t23 : tie.Need-element-copy-out-t23
 element-copy-out-t23 c = search needs
 
--- src/lib.rt:150:1
 returns : tie.Need-returns
 returns c =
     let s = c .before .before .before .before in
