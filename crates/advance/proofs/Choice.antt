@@ -21,14 +21,11 @@ use Rattle.format.specs.declared.Variant.the-variants.{H, L, LPlus}
 use Rattle.format.proofs.Range.{stepped-range}
 use Rattle.adpcm.proofs.Bounds.{difference-three, adjustment-three, step-low}
 use Rattle.advance.specs.declared.Sizes.{Sizes}
-use Rattle.advance.specs.Advance.{Sized, Landed}
+use Rattle.advance.specs.Advance.{sizeAt, Sized, Landed}
 use Rattle.advance.proofs.Cascade.{index-moved}
 use Rattle.advance.proofs.Nearest.{apart, Chosen, chosen, Lowest, cut, rises, differ, first-only, up-near, up-far, down-near, down-far}
 
 -- ---- the four sizes grow
-
-abbrev pub sizeAt : Variant → ℕ → ℕ → ℕ
-sizeAt variant step j = lSize (levelOf 3 variant j) step
 
 record Grow (f : ℕ → ℕ) : Type 0 where
   some : 0 < f 0

@@ -5,15 +5,19 @@ use Rattle.format.specs.Step.{stepAt, lSize, levelOf}
 use Rattle.format.specs.declared.Variant.{Variant}
 use Rattle.advance.specs.declared.Sizes.{Sizes}
 
--- the sizes of the differences of a variant, a row of four for each index, by the code's two low bits
+-- the size of the difference of a code at a step, by the code's two low bits
+abbrev pub sizeAt : Variant → ℕ → ℕ → ℕ
+sizeAt variant step j = lSize (levelOf 3 variant j) step
+
+-- the sizes of a variant, a row of four for each index
 abbrev pub sizeEntry : Variant → ℕ → ℕ
-sizeEntry variant k = lSize (levelOf 3 variant (k % 4)) (stepAt (k / 4))
+sizeEntry variant k = sizeAt variant (stepAt (k / 4)) (k % 4)
 
 pub record Sized (variant : Variant) (step : ℕ) (r : Sizes) : Type 0 where
-  pub first : r .a ≡ lSize (levelOf 3 variant 0) step
-  pub second : r .b ≡ lSize (levelOf 3 variant 1) step
-  pub third : r .c ≡ lSize (levelOf 3 variant 2) step
-  pub fourth : r .d ≡ lSize (levelOf 3 variant 3) step
+  pub first : r .a ≡ sizeAt variant step 0
+  pub second : r .b ≡ sizeAt variant step 1
+  pub third : r .c ≡ sizeAt variant step 2
+  pub fourth : r .d ≡ sizeAt variant step 3
 
 -- the sizes cut off at a room
 pub record Within (s : Sizes) (room : ℕ) (r : Sizes) : Type 0 where

@@ -22,13 +22,6 @@ fn smaller(a: u32, b: u32) -> u32
     if b < a { b } else { a }
 }
 
-// The distance of two numbers.
-pub fn gap(a: u32, b: u32) -> u32
-    ensures { λ r. ⌜ r ≡ a - b + (b - a) ⌝ }
-{
-    if a < b { b - a } else { a - b }
-}
-
 // Internal: what is left of d when a threshold that fits into it is taken off. A difference that wraps is not below d, so
 // that no jump is taken.
 fn rest(threshold: u32, d: u32) -> u32
@@ -93,7 +86,7 @@ fn h_next(steps: &[i32; 89], state: State, input: i32) -> State
     let step = adpcm::step_size(steps, index);
     let x = signed::raise(input);
     let p = signed::raise(predictor);
-    let d = gap(x, p);
+    let d = signed::gap(x, p);
     let half = rest(step, d);
     let quarter = rest(step / 2, half);
     let last = rest(step / 4, quarter);
@@ -208,7 +201,7 @@ fn l_next(table: &[u32; 356], variant: Variant, state: State, input: i32) -> Sta
     let predictor = state.predictor;
     let x = signed::raise(input);
     let p = signed::raise(predictor);
-    let twice = 2 * gap(x, p);
+    let twice = 2 * signed::gap(x, p);
     let limit = room(x, p);
     let sizes = within(sizes_at(table, variant, index), limit);
     let a = sizes.a;

@@ -1,11 +1,8 @@
--- A division by 255 by the halves of 257 times the number, since 257 * 255 is 65535; and a sign by the depth. Assumes nothing.
-use Prim.Native.Nat.{ℕ, zero, suc, _+_, _-_, _*_, _/_, _%_, _≤_, _<_}
+-- A division by 255 by the halves of 257 times the number, since 257 * 255 is 65535. Assumes nothing.
+use Prim.Native.Nat.{ℕ, _+_, _-_, _*_, _/_, _%_, _≤_, _<_}
 use native.Mathlib.Nat.{mul-left-comm, mul-add-mod-self-left}
 use native.Mathlib.Omega.{arith}
-use mathlib.Core.Path.{_≡_, refl, sym, ap, _∙_}
-use mathlib.Core.Bool.{Bool, true, false, cond}
-use lib.Signed.{mag}
-use Rattle.signed.specs.Signed.{withSign, depth}
+use mathlib.Core.Path.{_≡_, sym, ap, _∙_}
 
 -- 257 times a product of two
 pub times : (m g : ℕ) → m * (257 * g) ≡ 257 * (m * g)
@@ -24,17 +21,3 @@ module _ (z : ℕ) where
 
     pub rounds-down : 257 * z % 65536 < 65535 - 257 * half - 257 * z / 65536 → 257 * z / 65536 ≡ (z + half) / 255
     rounds-down l = omega arith
-
--- ---- a sign by the depth
-
-pub depth-signed : (b : Bool) (m : ℕ) → mag (withSign b m) ≤ 32767 → depth (withSign b m) ≡ cond b (32767 + m) (32767 - m)
-unfolding depth withSign
-depth-signed true zero h = refl
-depth-signed true (suc n) h = omega arith
-depth-signed false m h = refl
-
-pub magnitude-small : (b : Bool) (m : ℕ) → mag (withSign b m) ≤ 32767 → m + cond b 0 1 ≤ 32768
-unfolding withSign
-magnitude-small true zero h = omega arith
-magnitude-small true (suc n) h = omega arith
-magnitude-small false m h = omega arith

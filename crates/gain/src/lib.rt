@@ -36,21 +36,12 @@ fn quotient(m: u32, gain: u8, half: u32) -> u16
     }
 }
 
-// Internal: the 16-bit number with magnitude m, negated where `negative`, by its depth below 32767.
-fn with_sign16(negative: bool, m: u16) -> i16
-    requires { ⌜ mag (withSign negative m) ≤ 32767 ⌝ }
-    ensures { λ r. ⌜ r ≡ withSign negative m ⌝ }
-{
-    let depth = if negative { 32767 + m } else { 32767 - m };
-    signed::at_depth(depth as u32)
-}
-
 // Internal: the same as `scaled`, for loops over many samples.
 pub fn scaled_in_halves(x: i32, gain: u8, half: u32) -> i16
     requires { ⌜ (mag x ≤ 32767) × (half ≤ 127) ⌝ }
     ensures { λ r. ⌜ r ≡ withSign (isNeg x) ((natAbs x * gain + half) / 255) ⌝ }
 {
-    with_sign16(
+    signed::with_sign16(
         signed::is_negative(x),
         quotient(signed::magnitude(x), gain, half),
     )

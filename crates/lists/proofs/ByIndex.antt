@@ -6,7 +6,7 @@ use native.Mathlib.Nat.{mul-le-mul-right, le-of-eq}
 use native.Mathlib.Numerals.{add-one}
 use native.Mathlib.Decide.{decLt}
 use mathlib.Core.List.{List, [], _∷_, _++_, map}
-use lib.ListN.{length, getD, take, drop, set, length-append, length-take, length-drop, List·getD-append}
+use lib.ListN.{length, getD, take, drop, set, length-append, length-take, length-drop, length-set, List·getD-append}
 use lib.Seq.{take-suc-set, drop-at, getD-at, take-all, take-append-le, drop-append-le, ext-getD, getD-take, getD-drop, length-take-le}
 use Rattle.lists.specs.Lists.{tabulate, joined}
 
@@ -114,3 +114,28 @@ module _ {A B : Type 0} (f : A → B) where
       sym (getD-take n ts i e l)
       ∙ ap (λ (t : List B). getD t i e) m
       ∙ map-at (take n xs) i d e (rw length-take-le l)
+
+-- ---- a loop that fills an array of n places: the first i of them are g's
+
+pub record Filled {A : Type 0} (g : ℕ → A) (n i : ℕ) (r : List A) : Type 0 where
+  pub within : i ≤ n
+  pub long : length r ≡ n
+  pub done : take i r ≡ tabulate g i
+
+module _ {A : Type 0} (g : ℕ → A) (n : ℕ) where
+  pub filled-none : {r : List A} → length r ≡ n → Filled g n 0 r
+  unfolding tabulate
+  filled-none e = record { within = omega arith; long = e; done = refl }
+
+  pub filled-more : {i : ℕ} {r : List A} {x : A} → Filled g n i r → i < n → x ≡ g i → Filled g n (i + 1) (set r i x)
+  filled-more {i} {r} {x} f h e =
+      record {
+        within = omega arith;
+        long = simp length-set (f .long);
+        done = fill-next g r i x (omega (arith, f .long)) (f .done) e;
+      }
+
+  pub filled-all : {i : ℕ} {r : List A} → Filled g n i r → n ≤ i → r ≡ tabulate g n
+  filled-all {i} {r} f h =
+      let e : i ≡ n = omega (arith, f .within) in
+      sym (take-all i r (omega (arith, f .long))) ∙ f .done ∙ rw e

@@ -72,17 +72,6 @@ pub fn step(s: Point, code: u8, differences: &[u32], nexts: &[u16]) -> Point
     Point { depth, at }
 }
 
-// The index whose row begins at a place.
-fn index_of(variant: Variant, at: usize) -> usize
-    ensures { λ r. ⌜ r ≡ at / 2 ^ bits variant ⌝ }
-{
-    match variant {
-        Variant::H => at / 16,
-        Variant::L => at / 8,
-        Variant::LPlus => at / 8,
-    }
-}
-
 // Internal: a state, as the tables gave it.
 pub fn state_of(variant: Variant, s: Point) -> State
     requires { ⌜ s .depth ≤ 65535 ⌝ }
@@ -91,6 +80,6 @@ pub fn state_of(variant: Variant, s: Point) -> State
     let depth = s.depth;
     let at = s.at;
     let predictor = signed::at_depth(depth) as i32;
-    let index = index_of(variant, at);
+    let index = at / row_size(variant);
     State { predictor, index }
 }

@@ -7,7 +7,7 @@ use mathlib.Core.Bool.{cond}
 use mathlib.Core.List.{List}
 use lib.IntN.{ℤ, pos, _-ℤ_}
 use lib.ListN.{length, getD, set, take, length-set}
-use lib.Seq.{getD-take, take-all}
+use lib.Seq.{getD-take}
 use Rattle.lists.specs.Lists.{tabulate}
 use Rattle.lists.proofs.ByIndex.{fill-next, getD-tabulate, take-tabulate, tabulate-ext}
 use Rattle.signed.proofs.Laws.{cond-ind, depth-le, depth-back}
@@ -79,29 +79,6 @@ module _ (version : ℕ) (variant : Variant) (codes : List ℕ) where
           done = rw ed (fill-next (depthAt version variant codes t) depths i (r .depth) (omega (arith, k .long)) (k .done) (rw next));
           point = rw add-one next;
         }
-
--- ---- the loop of the output gain
-
-module _ (version volume : ℕ) (depths : List ℕ) where
-  -- i depths are taken to samples
-  pub record Louder (i : ℕ) (samples : List ℤ) : Type 0 where
-    pub long : length samples ≡ 64
-    pub done : take i samples ≡ tabulate (λ k. outputGain version volume (pos 32767 -ℤ pos (getD depths k 0))) i
-
-  pub louder-none : {samples : List ℤ} → length samples ≡ 64 → Louder 0 samples
-  unfolding tabulate
-  louder-none l = record { long = l; done = refl }
-
-  pub louder-more : {i : ℕ} {samples : List ℤ} {x : ℤ} → Louder i samples → i < 64 → x ≡ outputGain version volume (pos 32767 -ℤ pos (getD depths i 0))
-      → Louder (i + 1) (set samples i x)
-  louder-more {i} {samples} {x} k l e =
-      record {
-        long = simp length-set (k .long);
-        done = fill-next (λ k. outputGain version volume (pos 32767 -ℤ pos (getD depths k 0))) samples i x (omega (arith, k .long)) (k .done) e;
-      }
-
-  pub louder-all : {i : ℕ} {samples : List ℤ} → Louder i samples → i ≡ 64 → samples ≡ tabulate (λ k. outputGain version volume (pos 32767 -ℤ pos (getD depths k 0))) 64
-  louder-all {i} {samples} k e = sym (take-all i samples (omega (arith, k .long))) ∙ k .done ∙ rw e
 
 -- ---- a fragment
 

@@ -4,11 +4,10 @@ use native.Mathlib.Nat.{mul-add, mul-suc, mul-le-mul-left}
 use native.Mathlib.Omega.{arith}
 use mathlib.Core.Path.{_≡_, refl, sym, ap, _∙_}
 use mathlib.Core.List.{List}
-use lib.ListN.{length, getD, set, take, length-set}
+use lib.ListN.{getD}
 use lib.Pow.{shr-shr}
-use lib.Seq.{take-all}
 use Rattle.lists.specs.Lists.{tabulate}
-use Rattle.lists.proofs.ByIndex.{fill-next}
+use Rattle.lists.proofs.ByIndex.{Filled, filled-all}
 use Rattle.digits.specs.Digits.{number, digits, bitsAt, field, unpacked, codeAt}
 use Rattle.format.specs.Layout.{bits, payloadBytes}
 use Rattle.format.specs.declared.Variant.{Variant}
@@ -21,23 +20,9 @@ unfolding digits tabulate
 digits-tabulate w zero x = refl
 digits-tabulate w (suc n) x = digits-snoc w n x ∙ rw (digits-tabulate w n x)
 
--- k codes of w bits are unpacked
-pub record Unpacked (w : ℕ) (bytes : List ℕ) (k : ℕ) (codes : List ℕ) : Type 0 where
-  pub long : length codes ≡ 64
-  pub done : take k codes ≡ tabulate (λ i. codeAt w i bytes) k
-
 module _ (w : ℕ) (bytes : List ℕ) where
-  pub unpacked-none : {codes : List ℕ} → length codes ≡ 64 → Unpacked w bytes 0 codes
-  unfolding tabulate
-  unpacked-none e = record { long = e; done = refl }
-
-  pub unpacked-more : {k x : ℕ} {codes : List ℕ} → Unpacked w bytes k codes → k < 64 → x ≡ codeAt w k bytes → Unpacked w bytes (k + 1) (set codes k x)
-  unpacked-more {k} {x} {codes} u h e =
-      record { long = simp length-set (u .long); done = fill-next (λ i. codeAt w i bytes) codes k x (omega (arith, u .long)) (u .done) e }
-
-  pub unpacked-all : {k : ℕ} {codes : List ℕ} → Unpacked w bytes k codes → k ≡ 64 → codes ≡ unpacked w 64 bytes
-  unpacked-all {k} {codes} u e =
-      sym (take-all k codes (omega (arith, u .long))) ∙ u .done ∙ rw e (sym (digits-tabulate w 64 (number 8 bytes)))
+  pub unpacked-all : {k : ℕ} {codes : List ℕ} → Filled (λ i. codeAt w i bytes) 64 k codes → 64 ≤ k → codes ≡ unpacked w 64 bytes
+  unpacked-all f h = filled-all _ _ f h ∙ sym (digits-tabulate w 64 (number 8 bytes))
 
   -- code j of the group g of n codes, from the number x of the group's bits
   group-code : (n g j x : ℕ) → j < n → x ≡ bitsAt (w * n) (w * (n * g)) (number 8 bytes) → bitsAt w (w * j) x ≡ codeAt w (n * g + j) bytes

@@ -40,7 +40,7 @@ pub fn squared_error(sample: i16, state: State, volume: u8) -> u64
     ensures { λ r. ⌜ (r ≡ square (natAbs (sample -ℤ outputGain 3 volume (state .predictor)))) × (r ≤ 4294967296) ⌝ }
 {
     let predictor = state.predictor;
-    let d = advance::gap(
+    let d = signed::gap(
         signed::raise(sample as i32),
         gain::raised_output(predictor, volume),
     ) as u64;

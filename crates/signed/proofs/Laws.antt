@@ -237,3 +237,17 @@ pub depth-back : (z : ℤ) → mag z ≤ 32767 → pos 32767 -ℤ pos (depth z) 
 unfolding depth
 depth-back (pos n) h = rw (from-top, le-ltb 32767 (32767 - n) (omega arith)) (ap pos (omega arith))
 depth-back (negsuc n) h = rw (from-top, lt-ltb 32767 (n + 32768) (omega arith)) (ap negsuc (omega arith))
+
+-- ---- a sign, by the depth
+
+pub depth-signed : (b : Bool) (m : ℕ) → mag (withSign b m) ≤ 32767 → depth (withSign b m) ≡ cond b (32767 + m) (32767 - m)
+unfolding depth withSign
+depth-signed true zero h = refl
+depth-signed true (suc n) h = omega arith
+depth-signed false m h = refl
+
+pub magnitude-small : (b : Bool) (m : ℕ) → mag (withSign b m) ≤ 32767 → m + cond b 0 1 ≤ 32768
+unfolding withSign
+magnitude-small true zero h = omega arith
+magnitude-small true (suc n) h = omega arith
+magnitude-small false m h = omega arith

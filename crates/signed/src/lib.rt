@@ -76,6 +76,13 @@ pub fn distance(x: i32, y: i32) -> u32
     magnitude(x - y)
 }
 
+// The distance of two unsigned numbers.
+pub fn gap(a: u32, b: u32) -> u32
+    ensures { λ r. ⌜ r ≡ a - b + (b - a) ⌝ }
+{
+    if a < b { b - a } else { a - b }
+}
+
 // a - b, and 0 where that is below 0.
 pub fn less(a: u32, b: u32) -> u32
     ensures { λ r. ⌜ r ≡ a - b ⌝ }
@@ -129,6 +136,15 @@ pub fn at_depth(depth: u32) -> i16
     ensures { λ r. ⌜ r ≡ pos 32767 -ℤ pos depth ⌝ }
 {
     (32767 - (depth as i32)) as i16
+}
+
+// Internal: the 16-bit number with magnitude m, negated where `negative`, by its depth below 32767.
+pub fn with_sign16(negative: bool, m: u16) -> i16
+    requires { ⌜ mag (withSign negative m) ≤ 32767 ⌝ }
+    ensures { λ r. ⌜ r ≡ withSign negative m ⌝ }
+{
+    let depth = if negative { 32767 + m } else { 32767 - m };
+    at_depth(depth as u32)
 }
 
 // The sample that two bytes state, in two's complement.

@@ -8,7 +8,8 @@ use Rattle.signed.proofs.Laws.{back32, read16}
 use Rattle.format.specs.Step.{stepAt}
 use Rattle.adpcm.proofs.Bounds.{step-low}
 use Rattle.advance.proofs.Nearest.{Chosen, cut}
-use Rattle.advance.proofs.Choice.{sizeAt, sized-order, l-chosen, l-stepped}
+use Rattle.advance.specs.Advance.{sizeAt}
+use Rattle.advance.proofs.Choice.{sized-order, l-chosen, l-stepped}
 use Rattle.advance.proofs.l_next.Statement.{statement}
 use Rattle.advance.proofs.l_next.Tie as tie
 

@@ -1,5 +1,6 @@
 -- `advance::size_table` meets its contract. Assumes nothing.
-use Rattle.advance.proofs.Rows.{Made, made-none, made-more, made-all}
+use Rattle.lists.proofs.ByIndex.{Filled, filled-none, filled-more, filled-all}
+use Rattle.advance.specs.Advance.{sizeEntry}
 use borrow.Author.Needs.{needs}
 use mathlib.Core.Path.{refl}
 use native.Mathlib.Omega.{arith}
@@ -8,13 +9,13 @@ use Rattle.advance.proofs.size_table.Statement.{statement}
 use Rattle.advance.proofs.size_table.Tie as tie
 
 abbrev Inv-loop : tie.InvT-loop
-Inv-loop steps variant table₀ k₀ table k = Made variant k table
+Inv-loop steps variant table₀ k₀ table k = Filled (sizeEntry variant) 356 k table
 
 abbrev μ-loop : tie.MeasureT-loop
 μ-loop steps variant table₀ k₀ table k = 356 - k
 
 loop-holds : tie.Need-loop-holds Inv-loop μ-loop
-loop-holds c = made-none _ refl
+loop-holds c = filled-none _ _ refl
 
 cast-level : tie.Need-cast-level Inv-loop μ-loop
 cast-level c = omega arith
@@ -41,10 +42,10 @@ loop-less : tie.Need-loop-less Inv-loop μ-loop
 loop-less c = omega arith
 
 loop-again : tie.Need-loop-again Inv-loop μ-loop
-loop-again c = made-more _ (c .before .before .before .before .loop .inv) (omega arith) (rw (c .l-size .ensures .0, c .before .before .level .ensures .0, c .before .step-size .ensures .0))
+loop-again c = filled-more _ _ (c .before .before .before .before .loop .inv) (omega arith) (rw (c .l-size .ensures .0, c .before .before .level .ensures .0, c .before .step-size .ensures .0))
 
 returns : tie.Need-returns Inv-loop μ-loop
-returns c = made-all _ (c .before .loop .inv) (omega arith)
+returns c = filled-all _ _ (c .before .loop .inv) (omega arith)
 
 pub size-table-spec : {M : Type 1} → statement M
 size-table-spec =

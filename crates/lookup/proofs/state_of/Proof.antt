@@ -1,5 +1,7 @@
 -- `lookup::state_of` meets its contract. Assumes nothing.
 use native.Mathlib.Omega.{arith}
+use lib.Pow.{pow-pos}
+use Rattle.format.specs.Layout.{bits}
 use mir.Facts.{toZ-ofZ}
 use borrow.Author.Needs.{needs}
 use Rattle.signed.proofs.Laws.{back16}
@@ -13,12 +15,15 @@ at-depth-requires c κs = search needs
 cast-predictor : tie.Need-cast-predictor
 cast-predictor c = rw (back16 (c .at-depth .result) (c .at-depth .ok)) (record { sfits = omega (arith, c .at-depth .ok) })
 
-index-of-requires : tie.Need-index-of-requires
-index-of-requires c κs = search needs
+row-size-requires : tie.Need-row-size-requires
+row-size-requires c κs = search needs
+
+div-index : tie.Need-div-index
+div-index c = rw (c .row-size .ensures) (pow-pos (bits (c .before .before .args .variant)))
 
 returns : tie.Need-returns
 unfolding stateOf
-returns c = rw (toZ-ofZ (cast-predictor (c .before)), back16 (c .before .at-depth .result) (c .before .at-depth .ok), c .before .at-depth .ensures, c .index-of .ensures)
+returns c = rw (toZ-ofZ (cast-predictor (c .before)), back16 (c .before .at-depth .result) (c .before .at-depth .ok), c .before .at-depth .ensures, c .row-size .ensures)
 
 pub state-of-spec : {M : Type 1} → statement M
-state-of-spec = tie.close (tie.spec at-depth-requires cast-predictor index-of-requires returns)
+state-of-spec = tie.close (tie.spec at-depth-requires cast-predictor row-size-requires div-index returns)

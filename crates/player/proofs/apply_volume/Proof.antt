@@ -1,5 +1,5 @@
 -- `player::apply_volume` meets its contract. Assumes nothing.
-use Prim.Native.Nat.{_-_, _≤_}
+use Prim.Native.Nat.{_-_}
 use native.Mathlib.Omega.{arith}
 use mathlib.Core.Path.{_≡_, _∙_}
 use lib.ListN.{getD}
@@ -9,12 +9,12 @@ use borrow.Author.Needs.{needs}
 use Rattle.signed.proofs.Laws.{back16}
 use Rattle.gain.proofs.Laws.{output-scaled}
 use Rattle.format.specs.Gain.{outputGain}
-use Rattle.player.proofs.Running.{Louder, louder-none, louder-more, louder-all}
+use Rattle.lists.proofs.ByIndex.{Filled, filled-none, filled-more, filled-all}
 use Rattle.player.proofs.apply_volume.Statement.{statement}
 use Rattle.player.proofs.apply_volume.Tie as tie
 
 abbrev Inv-loop : tie.InvT-loop
-Inv-loop version depths volume samples₀ half i₀ samples i = (i ≤ 64) × Louder version volume depths i samples
+Inv-loop version depths volume samples₀ half i₀ samples i = Filled (λ k. outputGain version volume (pos 32767 -ℤ pos (getD depths k 0))) 64 i samples
 
 abbrev μ-loop : tie.MeasureT-loop
 μ-loop version depths volume samples₀ half i₀ samples i = 64 - i
@@ -23,7 +23,7 @@ rounding-requires : tie.Need-rounding-requires Inv-loop μ-loop
 rounding-requires c κs = search needs
 
 loop-holds : tie.Need-loop-holds Inv-loop μ-loop
-loop-holds c = (omega arith, louder-none _ _ _ (c .before .pre))
+loop-holds c = filled-none _ _ (c .before .pre)
 
 mul-predictor-at : tie.Need-mul-predictor-at Inv-loop μ-loop
 mul-predictor-at c = search needs
@@ -56,10 +56,10 @@ loop-again : tie.Need-loop-again Inv-loop μ-loop
 loop-again c =
     let x : c .scaled-in-halves .result ≡ outputGain (c .before .before .before .before .before .before .args .version) (c .before .before .before .before .before .before .args .volume) (pos 32767 -ℤ pos (getD (c .before .before .before .before .before .before .args .depths .now) (c .before .before .before .before .loop .i) 0)) =
     c .scaled-in-halves .ensures ∙ rw (toZ-ofZ (cast-scaled-in-halves (c .before)), back16 (c .before .predictor-at .result) (c .before .predictor-at .ok), c .before .predictor-at .ensures, c .before .before .before .before .before .rounding .ensures .0) (output-scaled (c .before .before .before .before .before .before .args .version) (c .before .before .before .before .before .before .args .volume) _) in
-    (omega arith, louder-more _ _ _ (c .before .before .before .before .loop .inv .1) (omega arith) (back16 (c .scaled-in-halves .result) (c .scaled-in-halves .ok) ∙ x))
+    filled-more _ _ (c .before .before .before .before .loop .inv) (omega arith) (back16 (c .scaled-in-halves .result) (c .scaled-in-halves .ok) ∙ x)
 
 returns : tie.Need-returns Inv-loop μ-loop
-returns c = louder-all _ _ _ (c .before .loop .inv .1) (omega arith)
+returns c = filled-all _ _ (c .before .loop .inv) (omega arith)
 
 pub apply-volume-spec : {M : Type 1} → statement M
 apply-volume-spec =

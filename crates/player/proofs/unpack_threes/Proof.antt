@@ -3,25 +3,27 @@ use Prim.Native.Nat.{_-_, _*_, _+_, _≤_, _<_}
 use native.Mathlib.Omega.{arith}
 use mathlib.Core.Path.{_≡_}
 use lib.ListN.{length}
+use Rattle.lists.proofs.ByIndex.{Filled, filled-none, filled-more}
+use Rattle.digits.specs.Digits.{codeAt}
 use Rattle.digits.proofs.Laws.{Small}
-use Rattle.player.proofs.Unpacking.{Unpacked, unpacked-none, unpacked-more, unpacked-all, Left, left-none, left-more, left-code}
+use Rattle.player.proofs.Unpacking.{unpacked-all, Left, left-none, left-more, left-code}
 use Rattle.player.proofs.unpack_threes.Statement.{statement}
 use Rattle.player.proofs.unpack_threes.Tie as tie
 
 abbrev Inv-loop2 : tie.InvT-loop2
-Inv-loop2 payload codes₀ i w₀ j₀ codes w j = (j ≤ 8) × (i < 8) × Left payload i j w × Unpacked 3 payload (8 * i + j) codes
+Inv-loop2 payload codes₀ i w₀ j₀ codes w j = (j ≤ 8) × (i < 8) × Left payload i j w × Filled (λ k. codeAt 3 k payload) 64 (8 * i + j) codes
 
 abbrev μ-loop2 : tie.MeasureT-loop2
 μ-loop2 payload codes₀ i w₀ j₀ codes w j = 8 - j
 
 abbrev Inv-loop : tie.InvT-loop
-Inv-loop payload codes₀ i₀ codes i = (i ≤ 8) × (length payload ≡ 24) × Unpacked 3 payload (8 * i) codes
+Inv-loop payload codes₀ i₀ codes i = (i ≤ 8) × (length payload ≡ 24) × Filled (λ k. codeAt 3 k payload) 64 (8 * i) codes
 
 abbrev μ-loop : tie.MeasureT-loop
 μ-loop payload codes₀ i₀ codes i = 8 - i
 
 loop-holds : tie.Need-loop-holds Inv-loop2 μ-loop2 Inv-loop μ-loop
-loop-holds c = (omega arith, c .before .pre .0, unpacked-none 3 _ (c .before .pre .1))
+loop-holds c = (omega arith, c .before .pre .0, filled-none _ _ (c .before .pre .1))
 
 mul-word : tie.Need-mul-word Inv-loop2 μ-loop2 Inv-loop μ-loop
 mul-word c = omega arith
@@ -59,7 +61,7 @@ loop2-again c =
     let small : Small 8 p = λ k. c .before .before .before .before .before .shared-slice-known .given k .fits in
     let e : 8 * g + (c .before .loop2 .j + 1) ≡ 8 * g + c .before .loop2 .j + 1 = omega arith in
     let left = c .before .loop2 .inv .2 in
-    (omega arith, c .before .loop2 .inv .1, left-more p g left, rw e (unpacked-more 3 p (c .before .loop2 .inv .3) (omega arith) (left-code p g small (omega arith) left)))
+    (omega arith, c .before .loop2 .inv .1, left-more p g left, rw e (filled-more _ _ (c .before .loop2 .inv .3) (omega arith) (left-code p g small (omega arith) left)))
 
 add-i : tie.Need-add-i Inv-loop2 μ-loop2 Inv-loop μ-loop
 add-i c = omega arith

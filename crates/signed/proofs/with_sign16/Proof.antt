@@ -1,4 +1,4 @@
--- `gain::with_sign16` meets its contract. Assumes nothing.
+-- `signed::with_sign16` meets its contract. Assumes nothing.
 use Prim.Native.Nat.{_+_, _-_}
 use native.Mathlib.Omega.{arith}
 use mathlib.Core.Path.{_≡_, sym, ap, _∙_}
@@ -6,11 +6,10 @@ use mathlib.Core.Bool.{cond}
 use mathlib.Core.Logic.{⊎-elim}
 use lib.IntN.{pos, _-ℤ_}
 use borrow.Author.Needs.{needs}
 use Rattle.signed.specs.Signed.{withSign, depth}
-use Rattle.signed.proofs.Laws.{back16, depth-back}
-use Rattle.gain.proofs.Halves.{depth-signed, magnitude-small}
-use Rattle.gain.proofs.with_sign16.Statement.{statement}
-use Rattle.gain.proofs.with_sign16.Tie as tie
+use Rattle.signed.proofs.Laws.{back16, depth-back, depth-signed, magnitude-small}
+use Rattle.signed.proofs.with_sign16.Statement.{statement}
+use Rattle.signed.proofs.with_sign16.Tie as tie
 
 add-depth : tie.Need-add-depth
 add-depth c = omega (arith, magnitude-small _ _ (c .before .pre))
