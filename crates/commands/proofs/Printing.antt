@@ -163,25 +163,30 @@ part-few file (refused n vs) = omega arith
 
 -- ---- the programs' own checks
 
-module _ (input : List ℕ) where
-  abbrev pub settings : Settings
-  settings = record { variant = variantOf (getD input 0 0); gain = getD input 1 0 }
+-- what a program has read: no more than it takes, or more
+pub read-few : (buffer : List ℕ) (count : ℕ) → count ≤ 65536 → length (take count buffer) ≤ 65536
+read-few buffer count l = simp length-take (omega arith)
 
+pub read-more : (buffer : List ℕ) (count : ℕ) → 65536 < length buffer → 65536 < count → 65536 < length (take count buffer)
+read-more buffer count l m = simp length-take (omega arith)
+
+module _ (input : List ℕ) where
   pub short-refused : length input < 2 → refused 38 [] ≡ converted input
   unfolding converted
   short-refused l = search checks depth 12
 
-  pub long-refused : 2 ≤ length input → 65536 < length input → refused 38 [] ≡ converted input
+  pub long-refused : 65536 < length input → refused 38 [] ≡ converted input
   unfolding converted
-  long-refused two l = search checks depth 12
+  long-refused l = clear _ _ _ _ _ (le-ltb (length input) 2 (omega arith)) (search checks depth 12)
 
-  pub variant-refused : 2 ≤ length input → length input ≤ 65536 → 2 < getD input 0 0 → refused 8 (getD input 0 0 ∷ []) ≡ converted input
+  pub variant-refused : {n : ℕ} {vs : List ℕ} → 2 ≤ length input → length input ≤ 65536 → refused n vs ≡ variantOf (getD input 0 0) → refused n vs ≡ converted input
   unfolding converted
-  variant-refused two few v = search checks depth 12
+  variant-refused two few e = clear _ _ _ _ _ (le-ltb _ _ two) (clear _ _ _ _ _ (le-ltb _ _ few) (then-refused _ _ _ _ e))
 
-  pub rest-converted : 2 ≤ length input → length input ≤ 65536 → getD input 0 0 ≤ 2 → encodeWave settings (drop 2 input) ≡ converted input
+  pub rest-converted : (v : Variant) → 2 ≤ length input → length input ≤ 65536 → result v ≡ variantOf (getD input 0 0)
+      → encodeWave (record { variant = v; gain = getD input 1 0 }) (drop 2 input) ≡ converted input
   unfolding converted
-  rest-converted two few v = search checks depth 12
+  rest-converted v two few e = clear _ _ _ _ _ (le-ltb _ _ two) (clear _ _ _ _ _ (le-ltb _ _ few) (then-result _ v _ _ e refl))
 
 module _ (d : List ℕ) where
   pub stream-too-long : 65536 < length d → refused 38 [] ≡ reported d

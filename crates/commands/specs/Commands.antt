@@ -35,12 +35,10 @@ encodeWave k file = andThen (readWave file) λ w. encodeWhole k (samplesOf (part
 -- 38 (under 2 or over 65,536 bytes), then 8
 unfoldable pub converted : List ℕ → Outcome (List ℕ)
 converted input =
-    let variant = getD input 0 0 in
     let gain = getD input 1 0 in
     refuseIf (ltb (length input) 2) 38 []
     ⟫ refuseIf (ltb 65536 (length input)) 38 []
-    ⟫ refuseIf (ltb 2 variant) 8 (variant ∷ [])
-    ⟫ encodeWave (record { variant = variantOf variant; gain = gain }) (drop 2 input)
+    ⟫ andThen (variantOf (getD input 0 0)) λ variant. encodeWave (record { variant = variant; gain = gain }) (drop 2 input)
 
 -- ---- the inspector: a stream
 

@@ -5,6 +5,7 @@ use format::Inspected;
 use format::Settings;
 use format::Values;
 use format::Variant;
+use format::VariantRead;
 use wav_format::WaveFilled;
 use wav_format::WaveRead;
 ghost use mathlib.Core.Path.{_≡_};
@@ -19,8 +20,10 @@ ghost use Rattle.lines.specs.Lines.{refusalLine, fragmentLine};
 ghost use Rattle.wav_format.specs.Samples.{samplesOf};
 ghost use Rattle.commands.specs.Commands.{printed, encodeWhole, encodeWave, converted, report, reported};
 
-// The most bytes that a program reads.
+// The most bytes that a program takes, and what it reads into: one byte more, so that a longer input is seen.
 pub const MOST: usize = 65536;
+
+pub const READ: usize = MOST + 1;
 
 // Room for the longest answer: a header's line and the lines of 2,620 fragments, of at most 128 bytes each. The streams are shorter.
 pub const ROOM: usize = 335488;
@@ -57,18 +60,28 @@ fn put_refusal(out: &mut [u8], number: u8, values: Values) -> usize
     text::put_line(out, 0, lines::refusal_line(number, values))
 }
 
-// The inspector: a stream's report, or a refusal's line, at the front of the output. The answer is how many bytes there are.
-pub fn report(input: &[u8], out: &mut [u8; ROOM]) -> usize
-    ensures { λ r. ⌜ Counts r (now (out .exit)) ⌝ }
-    ensures { λ r. ⌜ Put (now (out .entry)) 0 (printed (reported (now (input .entry)))) (now (out .exit)) r ⌝ }
+// Internal: the report on the stream in the first `count` bytes, or a refusal's line, at the front of the output.
+fn put_reported(out: &mut [u8], input: &[u8], count: usize) -> usize
+    requires { ⌜ (65536 < length (now input)) × (335488 ≤ length (now out)) ⌝ }
+    ensures { λ r. ⌜ Put (now (out .entry)) 0 (printed (reported (take count (now (input .entry))))) (now (out .exit)) r ⌝ }
 {
-    if MOST < input.len() {
+    if MOST < count {
         return put_refusal(out, 38, Values::none());
     }
-    match inspect::inspect(input) {
-        Inspected::Accepted(h) => put_report(out, input, h),
+    let file = &input[..count];
+    match inspect::inspect(file) {
+        Inspected::Accepted(h) => put_report(out, file, h),
         Inspected::Refused(e) => put_refusal(out, e.number(), e.values()),
     }
+}
+
+// The inspector: the report on the stream in the first `count` bytes, or a refusal's line, at the front of the output. The answer is
+// how many bytes there are.
+pub fn report(input: &[u8; READ], count: usize, out: &mut [u8; ROOM]) -> usize
+    ensures { λ r. ⌜ Counts r (now (out .exit)) ⌝ }
+    ensures { λ r. ⌜ Put (now (out .entry)) 0 (printed (reported (take count (now (input .entry))))) (now (out .exit)) r ⌝ }
+{
+    put_reported(out, input, count)
 }
 
 // Internal: the samples of sample bytes, at the front of an output that has room for them. The answer is how many there are.
@@ -109,25 +122,32 @@ fn put_wave(out: &mut [u8], settings: Settings, file: &[u8]) -> usize
     }
 }
 
-// The converter: the stream of a WAV at a variant and a gain, or a refusal's line, at the front of the output. The answer is how many
-// bytes there are.
-pub fn convert(input: &[u8], out: &mut [u8; ROOM]) -> usize
-    ensures { λ r. ⌜ Counts r (now (out .exit)) ⌝ }
-    ensures { λ r. ⌜ Put (now (out .entry)) 0 (printed (converted (now (input .entry)))) (now (out .exit)) r ⌝ }
+// Internal: the stream that the first `count` bytes give, or a refusal's line, at the front of the output.
+fn put_converted(out: &mut [u8], input: &[u8], count: usize) -> usize
+    requires { ⌜ (65536 < length (now input)) × (335488 ≤ length (now out)) ⌝ }
+    ensures { λ r. ⌜ Put (now (out .entry)) 0 (printed (converted (take count (now (input .entry))))) (now (out .exit)) r ⌝ }
 {
-    if input.len() < 2 {
+    if MOST < count {
         return put_refusal(out, 38, Values::none());
     }
-    if MOST < input.len() {
+    let bytes = &input[..count];
+    if bytes.len() < 2 {
         return put_refusal(out, 38, Values::none());
     }
-    let variant = input[0];
-    if 2 < variant {
-        return put_refusal(out, 8, Values::one(variant as usize));
+    match Variant::try_from(bytes[0]) {
+        VariantRead::Known(variant) => {
+            let gain = bytes[1];
+            put_wave(out, Settings { variant, gain }, &bytes[2..])
+        }
+        VariantRead::Refused(e) => put_refusal(out, e.number(), e.values()),
     }
-    let settings = Settings {
-        variant: Variant::from_byte(variant),
-        gain: input[1],
-    };
-    put_wave(out, settings, &input[2..])
+}
+
+// The converter: the stream that the variant byte, the gain byte and the WAV in the first `count` bytes give, or a refusal's line, at
+// the front of the output. The answer is how many bytes there are.
+pub fn convert(input: &[u8; READ], count: usize, out: &mut [u8; ROOM]) -> usize
+    ensures { λ r. ⌜ Counts r (now (out .exit)) ⌝ }
+    ensures { λ r. ⌜ Put (now (out .entry)) 0 (printed (converted (take count (now (input .entry))))) (now (out .exit)) r ⌝ }
+{
+    put_converted(out, input, count)
 }

@@ -4,10 +4,9 @@ use libc::STDIN_FILENO;
 use libc::STDOUT_FILENO;
 
 fn main() {
-    // One byte more than the converter takes, so that a longer input is seen.
-    let mut input = [0u8; commands::MOST + 1];
+    let mut input = [0u8; commands::READ];
     let n = io::read_full(STDIN_FILENO, &mut input);
     let mut out = [0u8; commands::ROOM];
-    let count = commands::convert(&input[..n], &mut out);
+    let count = commands::convert(&input, n, &mut out);
     io::write_all(STDOUT_FILENO, &out[..count]);
 }

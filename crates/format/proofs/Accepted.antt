@@ -8,7 +8,7 @@ use lib.ListN.{length}
 use Rattle.outcome.specs.Outcome.{result, inOrder}
 use Rattle.outcome.proofs.Laws.{cleared, passed, then-passed, order-passed}
 use Rattle.format.specs.Layout.{knownVersion, channelsFit, headerOf, frames, streamLength, fragmentAtPlace}
-use Rattle.format.specs.Inspect.{headerChecks, indexTooHigh, fragmentChecks, inspected}
+use Rattle.format.specs.Inspect.{fieldChecks, headerChecks, indexTooHigh, fragmentChecks, inspected}
 use Rattle.format.specs.declared.Header.{Header}
 
 pub record Accepted (d : List ℕ) (h : Header) : Type 0 where
@@ -32,16 +32,16 @@ pub record Headed (d : List ℕ) (h : Header) : Type 0 where
   pub size : length d ≡ streamLength h
 
 pub headed : (d : List ℕ) (h : Header) → headerChecks d ≡ result h → Headed d h
-unfolding headerChecks
+unfolding headerChecks fieldChecks
 headed d h e =
-    let p6 = passed _ _ _ _ (cleared _ _ _ _ e .1) in
-    let p7 = passed _ _ _ _ (p6 .1) in
-    let p1 = passed _ _ _ _ (cleared _ _ _ _ (p7 .1) .1) in
+    let p7 = passed _ _ _ _ (passed _ _ _ _ (cleared _ _ _ _ e .1) .1) in
+    let t = then-passed _ _ (p7 .1) in
+    let p1 = passed _ _ _ _ (t .2) in
     let p9 = passed _ _ _ _ (p1 .1) in
     let p10 = passed _ _ _ _ (cleared _ _ _ _ (p9 .1) .1) in
-    let last : result (headerOf d) ≡ result h = p10 .1 in
-    let same : headerOf d ≡ h = cc in
-    subst (λ (x : Header). Headed d x) same (record { version = p7 .0; channels = p1 .0; size = eqb-true _ _ (p10 .0) })
+    let last : result (headerOf d (t .0)) ≡ result h = p10 .1 in
+    let same : headerOf d (t .0) ≡ h = cc in
+    subst (λ (x : Header). Headed d x) same (unfold headerOf in (record { version = p7 .0; channels = p1 .0; size = eqb-true _ _ (p10 .0) }))
 
 pub accepted : (d : List ℕ) (h : Header) → inspected d ≡ result h → Accepted d h
 unfolding inspected

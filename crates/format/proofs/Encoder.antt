@@ -20,7 +20,7 @@ use Rattle.digits.proofs.Laws.{length-digits, number-digits, rest-packed, rest-
 use Rattle.format.specs.Layout.{knownVersion, encoderVersion, versionFor, channelsFit, bits, payloadBytes, fragmentSize, variantByte, variantOf, headerBytes, headerOf, frames, count, streamLength, fragmentAtPlace, fragmentAt}
 use Rattle.format.specs.Gain.{pregained, ownVolume}
 use Rattle.format.specs.Encode.{Trial, bestOrSilent, fragmentBytes, encodedFragment, channel, frameOf, headerWritten, fragmentFor, encoded, tooMany, encodeCall}
-use Rattle.format.specs.Inspect.{sameLetters, headerChecks, indexTooHigh, unusedZero, fragmentChecks, inspected}
+use Rattle.format.specs.Inspect.{fieldChecks, sameLetters, headerChecks, indexTooHigh, unusedZero, fragmentChecks, inspected}
 use Rattle.format.proofs.Sizes.{length-header}
 use Rattle.format.proofs.Trials.{best-or-silent-wrote}
 use Rattle.format.specs.declared.Variant.{Variant}
@@ -139,31 +139,27 @@ encoder-blind k pcm pcm′ channels rate c room room′ bytes bytes′ hc e e′
 
 -- ---- what the encoder writes, inspection accepts
 
-header-passes : (d : List ℕ) (h : Header) → headerOf d ≡ h → 16 ≤ length d → sameLetters d ≡ true → knownVersion (h .version) ≡ true
-    → getD d 5 0 ≤ 2 → channelsFit (h .version) (h .channels) ≡ true → getD d 7 0 ≡ 0 → eqb (h .rate) 0 ≡ false → length d ≡ streamLength h
+header-passes : (d : List ℕ) (h : Header) (v : Variant) → headerOf d v ≡ h → 16 ≤ length d → sameLetters d ≡ true → knownVersion (getD d 4 0) ≡ true
+    → variantOf (getD d 5 0) ≡ result v → channelsFit (h .version) (h .channels) ≡ true → getD d 7 0 ≡ 0 → eqb (h .rate) 0 ≡ false → length d ≡ streamLength h
     → headerChecks d ≡ result h
-unfolding headerChecks
-header-passes d h e l letters version variant channels reserved rate size =
-    rw e
-    (sym
+unfolding headerChecks fieldChecks
+header-passes d h v e l letters version variant channels reserved rate size =
+    sym
     (clear _ _ _ _ _ (le-ltb _ _ l)
     (pass _ _ _ _ _ letters
     (pass _ _ _ _ _ version
-    (clear _ _ _ _ _ (le-ltb _ _ variant)
+    (then-result _ v _ _ (sym variant)
+    (rw e
     (pass _ _ _ _ _ channels
     (pass _ _ _ _ _ (eq-eqb _ _ reserved)
     (clear _ _ _ _ _ rate
     (pass _ _ _ _ _ (eq-eqb _ _ size) refl)))))))))
 
-variant-back : (v : Variant) → variantOf (variantByte v) ≡ v
+variant-back : (v : Variant) → variantOf (variantByte v) ≡ result v
+unfolding variantOf
 variant-back H = refl
 variant-back L = refl
 variant-back LPlus = refl
-
-variant-low : (v : Variant) → variantByte v ≤ 2
-variant-low H = omega arith
-variant-low L = omega arith
-variant-low LPlus = omega arith
 
 payload-room : (v : Variant) (n : ℕ) → n ≤ 63 → bits v * n ≤ 8 * payloadBytes v
 payload-room H n h = omega arith
@@ -171,13 +167,13 @@ payload-room L n h = omega arith
 payload-room LPlus n h = omega arith
 
 -- the header is read as it was written
-header-back : (h : Header) (rest : List ℕ) → h .rate < 2 ^ 32 → h .samples < 2 ^ 32 → headerOf (headerBytes h ++ rest) ≡ h
+header-back : (h : Header) (rest : List ℕ) → h .rate < 2 ^ 32 → h .samples < 2 ^ 32 → headerOf (headerBytes h ++ rest) (h .variant) ≡ h
 unfolding headerOf headerBytes digits
-header-back h rest hr hs = fields _ _ _ (variant-back (h .variant)) (back (h .rate) hr) (back (h .samples) hs)
+header-back h rest hr hs = fields _ _ (back (h .rate) hr) (back (h .samples) hs)
   where
-    fields : (v : Variant) (r n : ℕ) → v ≡ h .variant → r ≡ h .rate → n ≡ h .samples
-        → record { version = h .version; variant = v; channels = h .channels; rate = r; samples = n } ≡ h
-    fields v r n a b c = rw (a, b, c)
+    fields : (r n : ℕ) → r ≡ h .rate → n ≡ h .samples
+        → record { version = h .version; variant = h .variant; channels = h .channels; rate = r; samples = n } ≡ h
+    fields r n b c = rw (b, c)
 
     back : (x : ℕ) → x < 2 ^ 32 → number 8 (digits 8 4 x) ≡ x
     back x l = number-digits 8 4 x ∙ mod-eq-of-lt l
@@ -227,9 +223,9 @@ module _ (k : Settings) (pcm : List ℤ) (channels rate : ℕ) where
   unfolding encoded headerBytes digits headerWritten sameLetters knownVersion
   header-accepted hr hs hc hz =
       let h : Header = headerWritten k pcm channels rate in
-      header-passes (encoded k pcm channels rate) h
+      header-passes (encoded k pcm channels rate) h (k .variant)
       (header-back h (joined (fragmentFor k pcm channels) (frames h * channels)) hr hs) (omega (arith, length-encoded)) refl refl
-      (variant-low (k .variant)) hc refl hz length-encoded
+      (variant-back (k .variant)) hc refl hz length-encoded
 
   -- what the encoder writes, inspection accepts, with the header that was asked for
   pub encoding-accepted : (room : ℕ) (bytes : List ℕ) → rate < 2 ^ 32 → encodeCall k pcm channels rate room ≡ result bytes

@@ -16,6 +16,8 @@ use Rattle.format.specs.declared.Settings.{Settings}
 use Rattle.format.specs.declared.Error.{Error}
 use Rattle.format.specs.declared.Error.the-variants.{InvalidChannels, ZeroSampleRate, MisalignedInterleavedSamples, TooManySamples, InvalidVariant, TruncatedHeader, InvalidMagic, UnsupportedVersion, InvalidReservedByte, InvalidFileLength, InvalidStepIndex, NonZeroPadding, OutputTooShort, InvalidFragment, InvalidState}
 use Rattle.format.specs.declared.Values.{Values}
+use Rattle.format.specs.declared.VariantRead.{VariantRead}
+use Rattle.format.specs.declared.VariantRead.the-variants as V′
 use Rattle.format.specs.declared.Inspected.{Inspected}
 use Rattle.format.specs.declared.Inspected.the-variants as I
 use Rattle.format.specs.declared.Encoded.{Encoded}
@@ -65,6 +67,10 @@ given vs = record { count = length vs; first = getD vs 0 0; second = getD vs 1 0
 
 abbrev pub refusal : {A : Type 0} → Error → Outcome A
 refusal e = refused (numberOf e) (valuesOf e)
+
+unfoldable pub variantReadOf : VariantRead → Outcome Variant
+variantReadOf (V′.Known v) = result v
+variantReadOf (V′.Refused e) = refusal e
 
 unfoldable pub inspectedOf : Inspected → Outcome Header
 inspectedOf (I.Accepted h) = result h

@@ -7,7 +7,7 @@ use lib.IntN.{ℤ}
 use lib.ListN.{length, getD}
 use Rattle.outcome.specs.Outcome.{Outcome, result, refuseIf, need, _⟫_, andThen, inOrder}
 use Rattle.digits.specs.Digits.{restZero}
-use Rattle.format.specs.Layout.{knownVersion, anew, channelsFit, bits, payload, indexByte, headerOf, frames, count, streamLength, fragmentAtPlace}
+use Rattle.format.specs.Layout.{knownVersion, anew, channelsFit, bits, payload, indexByte, variantOf, headerOf, frames, count, streamLength, fragmentAtPlace}
 use Rattle.format.specs.Decode.{decoded}
 use Rattle.format.specs.declared.Header.{Header}
 
@@ -15,21 +15,24 @@ use Rattle.format.specs.declared.Header.{Header}
 unfoldable pub sameLetters : List ℕ → Bool
 sameLetters d = eqb (getD d 0 0) 83 && eqb (getD d 1 0) 81 && eqb (getD d 2 0) 86 && eqb (getD d 3 0) 52
 
--- 5, 6, 7, 8, 1, 9, 2, 10
-unfoldable pub headerChecks : List ℕ → Outcome Header
-headerChecks d =
-    let h = headerOf d in
-    let variant = getD d 5 0 in
+-- 1, 9, 2, 10
+unfoldable pub fieldChecks : List ℕ → Header → Outcome Header
+fieldChecks d h =
     let reserved = getD d 7 0 in
-    refuseIf (ltb (length d) 16) 5 []
-    ⟫ need (sameLetters d) 6 []
-    ⟫ need (knownVersion (h .version)) 7 (h .version ∷ [])
-    ⟫ refuseIf (ltb 2 variant) 8 (variant ∷ [])
-    ⟫ need (channelsFit (h .version) (h .channels)) 1 (h .channels ∷ [])
+    need (channelsFit (h .version) (h .channels)) 1 (h .channels ∷ [])
     ⟫ need (eqb reserved 0) 9 (reserved ∷ [])
     ⟫ refuseIf (eqb (h .rate) 0) 2 []
     ⟫ need (eqb (length d) (streamLength h)) 10 (streamLength h ∷ length d ∷ [])
     ⟫ result h
+
+-- 5, 6, 7, 8, then 1, 9, 2, 10
+unfoldable pub headerChecks : List ℕ → Outcome Header
+headerChecks d =
+    let version = getD d 4 0 in
+    refuseIf (ltb (length d) 16) 5 []
+    ⟫ need (sameLetters d) 6 []
+    ⟫ need (knownVersion version) 7 (version ∷ [])
+    ⟫ andThen (variantOf (getD d 5 0)) λ variant. fieldChecks d (headerOf d variant)
 
 -- an index above 88, where an index is stored
 unfoldable pub indexTooHigh : ℕ → List ℕ → Bool

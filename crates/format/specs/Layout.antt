@@ -1,9 +1,10 @@
 -- The SQV4 stream: header, frames, and where each fragment lies. Assumes nothing.
 use Prim.Native.Nat.{ℕ, zero, suc, _+_, _-_, _*_, _/_, min}
 use mathlib.Core.Bool.{Bool, cond, _&&_, _||_}
-use mathlib.Core.List.{List, _∷_, _++_}
+use mathlib.Core.List.{List, [], _∷_, _++_}
 use lib.Dec.{leb, eqb}
 use lib.ListN.{getD, take, drop}
+use Rattle.outcome.specs.Outcome.{Outcome, result, refused}
 use Rattle.digits.specs.Digits.{stored, field}
 use Rattle.format.specs.declared.Variant.{Variant}
 use Rattle.format.specs.declared.Variant.the-variants.{H, L, LPlus}
@@ -71,22 +72,24 @@ variantByte H = 0
 variantByte L = 1
 variantByte LPlus = 2
 
-abbrev pub variantOf : ℕ → Variant
-variantOf zero = H
-variantOf (suc zero) = L
-variantOf (suc (suc n)) = LPlus
+-- the variant that a byte names: 0 H, 1 L, 2 LPlus; a variant above 2 is refused with 8 and the byte
+unfoldable pub variantOf : ℕ → Outcome Variant
+variantOf zero = result H
+variantOf (suc zero) = result L
+variantOf (suc (suc zero)) = result LPlus
+variantOf (suc (suc (suc n))) = refused 8 (suc (suc (suc n)) ∷ [])
 
 -- "SQV4"; version; variant; channels; reserved 0; rate, 4 bytes; samples per channel, 4 bytes
 unfoldable pub headerBytes : Header → List ℕ
 headerBytes h =
     83 ∷ 81 ∷ 86 ∷ 52 ∷ h .version ∷ variantByte (h .variant) ∷ h .channels ∷ 0 ∷ (stored 4 (h .rate) ++ stored 4 (h .samples))
 
--- the header that a stream's first 16 bytes state
-unfoldable pub headerOf : List ℕ → Header
-headerOf d =
+-- the header that a stream's first 16 bytes state, where the variant byte names this variant
+unfoldable pub headerOf : List ℕ → Variant → Header
+headerOf d variant =
     record {
       version = getD d 4 0;
-      variant = variantOf (getD d 5 0);
+      variant = variant;
       channels = getD d 6 0;
       rate = field 4 8 d;
       samples = field 4 12 d;

@@ -4,7 +4,7 @@ ghost use mathlib.Core.Path.{_≡_};
 ghost use Prim.Native.Nat.{_≤_};
 ghost use Rattle.format.specs.Layout.{knownVersion, bits, payloadBytes, fragmentSize, frameSamples, variantByte, variantOf};
 ghost use Rattle.format.specs.Decode.{fragmentStart};
-ghost use Rattle.format.specs.Answers.{numberOf, valuesOf, given};
+ghost use Rattle.format.specs.Answers.{numberOf, valuesOf, given, variantReadOf};
 ghost use mathlib.Core.List.{[], _∷_};
 
 // The version that the encoder writes.
@@ -71,14 +71,15 @@ impl Variant {
         }
     }
 
-    // The variant of a header's byte; a byte above 2 names none, and callers refuse it first.
-    pub fn from_byte(byte: u8) -> Variant
-        ensures { λ r. ⌜ r ≡ variantOf byte ⌝ }
+    // The variant that a byte names, or refusal 8.
+    pub fn try_from(byte: u8) -> VariantRead
+        ensures { λ r. ⌜ variantReadOf r ≡ variantOf byte ⌝ }
     {
         match byte {
-            0 => Variant::H,
-            1 => Variant::L,
-            _ => Variant::LPlus,
+            0 => VariantRead::Known(Variant::H),
+            1 => VariantRead::Known(Variant::L),
+            2 => VariantRead::Known(Variant::LPlus),
+            _ => VariantRead::Refused(Error::InvalidVariant(byte)),
         }
     }
 }
@@ -257,6 +258,12 @@ impl Error {
             Error::InvalidState => Values::none(),
         }
     }
+}
+
+// What a variant byte answers.
+pub enum VariantRead {
+    Known(Variant),
+    Refused(Error),
 }
 
 // What inspection answers.

@@ -4,6 +4,7 @@ use format::Header;
 use format::Inspected;
 use format::State;
 use format::Variant;
+use format::VariantRead;
 ghost use mathlib.Core.Path.{_≡_};
 ghost use mathlib.Core.Bool.{cond};
 ghost use lib.Dec.{ltb};
@@ -11,7 +12,7 @@ ghost use Prim.Native.Nat.{ℕ, _+_, _*_, _/_, _^_, _≤_, _<_};
 ghost use lib.ListN.{length};
 ghost use Rattle.outcome.specs.Outcome.{inOrder};
 ghost use Rattle.format.specs.Layout.{headerOf, frames, count, streamLength, fragmentAtPlace};
-ghost use Rattle.format.specs.Inspect.{sameLetters, headerChecks, indexTooHigh, unusedZero, fragmentChecks, inspected};
+ghost use Rattle.format.specs.Inspect.{sameLetters, fieldChecks, headerChecks, indexTooHigh, unusedZero, fragmentChecks, inspected};
 ghost use Rattle.format.specs.Answers.{inspectedOf};
 
 // "SQV4", as a little-endian number.
@@ -25,13 +26,12 @@ fn same_letters(file: &[u8]) -> bool
     digits::le32(file, 0) == MAGIC
 }
 
-// Internal: what the first 16 bytes state.
-fn header_of(file: &[u8]) -> Header
+// Internal: what the first 16 bytes state, where the variant byte names this variant.
+fn header_of(file: &[u8], variant: Variant) -> Header
     requires { ⌜ 16 ≤ length (now file) ⌝ }
-    ensures { λ r. ⌜ r ≡ headerOf (now (file .entry)) ⌝ }
+    ensures { λ r. ⌜ r ≡ headerOf (now (file .entry)) variant ⌝ }
 {
     let version = file[4];
-    let variant = Variant::from_byte(file[5]);
     let channels = file[6];
     let rate = digits::le32(file, 8);
     let samples = digits::le32(file, 12);
@@ -44,24 +44,11 @@ fn header_of(file: &[u8]) -> Header
     }
 }
 
-// The checks 5, 6, 7, 8, 1, 9, 2, 10, in this order.
-fn header_checks(file: &[u8]) -> Inspected
-    ensures { λ r. ⌜ inspectedOf r ≡ headerChecks (now (file .entry)) ⌝ }
+// Internal: the checks 1, 9, 2, 10, in this order.
+fn field_checks(file: &[u8], h: Header) -> Inspected
+    requires { ⌜ 16 ≤ length (now file) ⌝ }
+    ensures { λ r. ⌜ inspectedOf r ≡ fieldChecks (now (file .entry)) h ⌝ }
 {
-    if file.len() < layout::HEADER_SIZE {
-        return Inspected::Refused(Error::TruncatedHeader);
-    }
-    if !same_letters(file) {
-        return Inspected::Refused(Error::InvalidMagic);
-    }
-    let h = header_of(file);
-    if !format::known_version(h.version) {
-        return Inspected::Refused(Error::UnsupportedVersion(h.version));
-    }
-    let variant = file[5];
-    if 2 < variant {
-        return Inspected::Refused(Error::InvalidVariant(variant));
-    }
     if !layout::channels_fit(h.version, h.channels) {
         return Inspected::Refused(Error::InvalidChannels(h.channels));
     }
@@ -80,6 +67,26 @@ fn header_checks(file: &[u8]) -> Inspected
         });
     }
     Inspected::Accepted(h)
+}
+
+// The checks 5, 6, 7, 8, then 1, 9, 2, 10.
+fn header_checks(file: &[u8]) -> Inspected
+    ensures { λ r. ⌜ inspectedOf r ≡ headerChecks (now (file .entry)) ⌝ }
+{
+    if file.len() < layout::HEADER_SIZE {
+        return Inspected::Refused(Error::TruncatedHeader);
+    }
+    if !same_letters(file) {
+        return Inspected::Refused(Error::InvalidMagic);
+    }
+    let version = file[4];
+    if !format::known_version(version) {
+        return Inspected::Refused(Error::UnsupportedVersion(version));
+    }
+    match Variant::try_from(file[5]) {
+        VariantRead::Known(variant) => field_checks(file, header_of(file, variant)),
+        VariantRead::Refused(e) => Inspected::Refused(e),
+    }
 }
 
 // Internal: whether the fragment stores an index, and one above 88.

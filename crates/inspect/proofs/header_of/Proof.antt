@@ -7,12 +7,6 @@ use Rattle.inspect.proofs.header_of.Tie as tie
 shared-slice-read-version : tie.Need-shared-slice-read-version
 shared-slice-read-version c = search needs
 
-shared-slice-read-from-byte : tie.Need-shared-slice-read-from-byte
-shared-slice-read-from-byte c = search needs
-
-from-byte-requires : tie.Need-from-byte-requires
-from-byte-requires c κs = search needs
-
 shared-slice-read-channels : tie.Need-shared-slice-read-channels
 shared-slice-read-channels c = search needs
 
@@ -31,8 +25,6 @@ header-of-spec =
     tie.close
     (tie.spec
     shared-slice-read-version
-    shared-slice-read-from-byte
-    from-byte-requires
     shared-slice-read-channels
     le32-requires
     le32-requires-2
