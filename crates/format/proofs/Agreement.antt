@@ -11,7 +11,7 @@ use Rattle.outcome.proofs.Laws.{cleared, then-result}
 use Rattle.lists.proofs.ByIndex.{length-tabulate, getD-tabulate}
 use Rattle.format.specs.Layout.{wholeFrame, frames, fragmentAt}
 use Rattle.format.specs.Decode.{stateBefore, channelSample, decoded}
-use Rattle.format.specs.Inspect.{Sound, inspected, decodeCall}
+use Rattle.format.specs.Inspect.{Sound, inspected, decodeCall, Agree}
 use Rattle.format.proofs.Sizes.{frame-pos, frame-below}
 use Rattle.format.specs.declared.Header.{Header}
 
@@ -47,14 +47,6 @@ module _ (h : Header) (d : List ℕ) where
       let g = cleared _ _ _ _ (then-result _ h _ _ (sym i) refl ∙ e) .1 in
       let same : record { header = h; samples = decoded h d } ≡ x = cc in
       ap (λ (s : Sound). s .samples) same
-
--- of two decodings: each has all its samples, they agree on channel c with each other, and each with the definition
-pub record Agree (h : Header) (c : ℕ) (d e : List ℕ) (xs ys : List ℤ) : Type 0 where
-  pub length-first : length xs ≡ h .samples * h .channels
-  pub length-second : length ys ≡ h .samples * h .channels
-  pub each-other : (t : ℕ) → t < h .samples → getD xs (t * h .channels + c) (pos 0) ≡ getD ys (t * h .channels + c) (pos 0)
-  pub first : (t : ℕ) → t < h .samples → getD xs (t * h .channels + c) (pos 0) ≡ channelSample h (fragmentAt h d c) t
-  pub second : (t : ℕ) → t < h .samples → getD ys (t * h .channels + c) (pos 0) ≡ channelSample h (fragmentAt h e c) t
 
 pub agreement : (d e : List ℕ) (h : Header) → inspected d ≡ result h → inspected e ≡ result h
     → (room room′ : ℕ) (x y : Sound) → decodeCall d room ≡ result x → decodeCall e room′ ≡ result y

@@ -12,17 +12,14 @@ use Rattle.outcome.specs.Outcome.{Outcome, result, refused, Refuses}
 use Rattle.signed.specs.Signed.{onMagnitude}
 use Rattle.signed.proofs.Laws.{quot-on}
 use Rattle.format.specs.Layout.{anew, frames, streamLength, fragmentAt}
-use Rattle.format.specs.Gain.{nearest, pregained, ownVolume, normalised, outputGain}
+use Rattle.format.specs.Gain.{nearest, Nearest, Cut, pregained, ownVolume, normalised, outputGain}
 use Rattle.format.specs.Decode.{zeroState, InRange, stateBefore, fragmentCall}
-use Rattle.format.specs.Encode.{channel, headerWritten, encoded, encodeCall}
-use Rattle.format.specs.Inspect.{Sound, inspected, decodeCall}
+use Rattle.format.specs.Encode.{channel, headerWritten, encoded, encodeCall, OwnFragments}
+use Rattle.format.specs.Inspect.{Sound, inspected, decodeCall, Agree}
 use Rattle.format.specs.Calls.{Call, Listed, InStream, Separate}
 use Rattle.format.specs.Tests.{gives, refuses}
 use Rattle.format.specs.Cases.{cases, further}
 use Rattle.format.specs.Answers.{numberOf, valuesOf}
-use Rattle.format.proofs.Encoder.{Alone}
-use Rattle.format.proofs.Agreement.{Agree}
-use Rattle.format.proofs.Gain.{Nearest, Cut}
 use Rattle.format.proofs as proofs
 use Rattle.format.specs.declared.Variant.{Variant}
 use Rattle.format.specs.declared.State.{State}
@@ -85,11 +82,18 @@ refusals-differ = proofs.Answers.error-once
 -- ---- demand 3: between two channels of one stream nothing passes
 
 -- "an accepted stereo encoding holds for each channel, frame by frame, the very fragments that demand 2's definition gives for that
--- channel's samples alone at that variant and gain": byte for byte, those of a mono encoding of that channel, at byte
--- 16 + (f × channels + c) × fragment size (fragmentAt), for any number of channels that the encoder accepts
+-- channel's samples alone at that variant and gain": at byte 16 + (f × channels + c) × fragment size (fragmentAt), for any number of
+-- channels that the encoder accepts
+pub encoding-own : (k : Settings) (pcm : List ℤ) (channels rate c room : ℕ) (bytes : List ℕ) → c < channels
+    → encodeCall k pcm channels rate room ≡ result bytes → OwnFragments k pcm channels rate c bytes
+encoding-own = proofs.Encoder.encoding-own
+
+-- "An encoded fragment equals, byte for byte, the one encoded from its channel's own samples of that frame": that of a mono encoding
+-- of the channel
 pub encoding-alone : (k : Settings) (pcm : List ℤ) (channels rate c room room′ : ℕ) (bytes alone : List ℕ) → c < channels
     → encodeCall k pcm channels rate room ≡ result bytes → encodeCall k (channel pcm channels c) 1 rate room′ ≡ result alone
-    → Alone k pcm channels rate c bytes alone
+    → (f : ℕ) → f < frames (headerWritten k pcm channels rate)
+    → fragmentAt (headerWritten k pcm channels rate) bytes c f ≡ fragmentAt (headerWritten k (channel pcm channels c) 1 rate) alone 0 f
 encoding-alone = proofs.Encoder.encoding-alone
 
 -- that mono encoding is accepted wherever it has the room
@@ -116,7 +120,8 @@ encoding-accepted = proofs.Encoder.encoding-accepted
 pub separation : (d : List ℕ) (h : Header) → inspected d ≡ result h → (ks : List Call) → Listed h d (λ c. zeroState) (λ c. 0) ks → Separate h d ks
 separation = proofs.Separation.separation
 
--- "In version 3 the same holds for any fragments of the stream, none twice, in any order" (a fragment twice does no harm)
+-- "In version 3 the same holds for any fragments of the stream, none twice, in any order" (a fragment twice does no harm), refused
+-- calls included
 pub any-order : (d : List ℕ) (h : Header) → inspected d ≡ result h → anew (h .version) ≡ true → (ks : List Call) → InStream h ks → Separate h d ks
 any-order = proofs.Separation.any-order
 
@@ -129,9 +134,13 @@ pub refused-anyway : (version : ℕ) (variant : Variant) (s t : State) (fragment
     → Refuses (fragmentCall version variant s fragment n) → Refuses (fragmentCall version variant t fragment n)
 refused-anyway = proofs.Range.refused-anyway
 
--- the claim is not empty: a version 2 stereo stream and five calls, two of them refused, meet its premises
+-- the claims are not empty: a version 2 stereo stream and five calls, two of them refused, meet the premises of the one, and a
+-- version 3 stereo stream and five calls, the last frame first and one of them refused, those of the other
 pub separation-instance : Separate proofs.Instance.header proofs.Instance.stream proofs.Instance.calls
 separation-instance = proofs.Instance.separate-here
+
+pub any-order-instance : Separate proofs.Instance.header3 proofs.Instance.stream3 proofs.Instance.calls3
+any-order-instance = proofs.Instance.separate3-here
 
 -- "Whatever the rest holds, two accepted streams with equal headers and equal fragments in one channel agree on that channel's
 -- samples": with each other and with the definition's

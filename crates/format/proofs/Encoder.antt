@@ -19,7 +19,7 @@ use Rattle.digits.specs.Digits.{number, digits, packed}
 use Rattle.digits.proofs.Laws.{length-digits, number-digits, rest-packed, rest-less}
 use Rattle.format.specs.Layout.{knownVersion, encoderVersion, versionFor, channelsFit, bits, payloadBytes, fragmentSize, variantByte, variantOf, headerBytes, headerOf, frames, count, streamLength, fragmentAtPlace, fragmentAt}
 use Rattle.format.specs.Gain.{pregained, ownVolume}
-use Rattle.format.specs.Encode.{Trial, bestOrSilent, fragmentBytes, encodedFragment, channel, frameOf, headerWritten, fragmentFor, encoded, tooMany, encodeCall}
+use Rattle.format.specs.Encode.{Trial, bestOrSilent, fragmentBytes, encodedFragment, channel, frameOf, headerWritten, fragmentFor, encoded, tooMany, encodeCall, OwnFragments}
 use Rattle.format.specs.Inspect.{fieldChecks, sameLetters, headerChecks, indexTooHigh, unusedZero, fragmentChecks, inspected}
 use Rattle.format.proofs.Sizes.{length-header}
 use Rattle.format.proofs.Trials.{best-or-silent-wrote}
@@ -78,35 +78,29 @@ channel-alone xs =
     (tabulate-ext (λ t. getD xs (t * 1 + 0) (pos 0)) (λ t. getD xs t (pos 0)) (length xs) (λ t h. ap (λ n. getD xs n (pos 0)) (omega arith))
     ∙ tabulate-getD xs (pos 0))
 
--- both calls, for the channel among others and for the channel alone in mono, have the same frames and the same fragments
-pub record Alone (k : Settings) (pcm : List ℤ) (channels rate c : ℕ) (bytes alone : List ℕ) : Type 0 where
-  pub same-frames : frames (headerWritten k pcm channels rate) ≡ frames (headerWritten k (channel pcm channels c) 1 rate)
-  pub fragments : (f : ℕ) → f < frames (headerWritten k pcm channels rate)
-      → fragmentAt (headerWritten k pcm channels rate) bytes c f ≡ fragmentAt (headerWritten k (channel pcm channels c) 1 rate) alone 0 f
-  -- and these are the definition's for that channel's samples
-  pub defined : (f : ℕ) → f < frames (headerWritten k pcm channels rate)
-      → fragmentAt (headerWritten k pcm channels rate) bytes c f ≡ encodedFragment k (frameOf (channel pcm channels c) f)
-
 frames-alone : (k : Settings) (pcm : List ℤ) (channels rate c : ℕ)
     → frames (headerWritten k pcm channels rate) ≡ frames (headerWritten k (channel pcm channels c) 1 rate)
 unfolding frames headerWritten
 frames-alone k pcm channels rate c = rw (length-channel, div-one)
 
+pub encoding-own : (k : Settings) (pcm : List ℤ) (channels rate c room : ℕ) (bytes : List ℕ) → c < channels
+    → encodeCall k pcm channels rate room ≡ result bytes → OwnFragments k pcm channels rate c bytes
+encoding-own k pcm channels rate c room bytes hc e =
+    record {
+      same-frames = frames-alone k pcm channels rate c;
+      fragments = λ f hf. rw (← given k pcm channels rate room e) (encoded-fragment k pcm channels rate c f hc hf);
+    }
+
+-- both calls, for the channel among others and for the channel alone in mono, write the same fragments
 pub encoding-alone : (k : Settings) (pcm : List ℤ) (channels rate c room room′ : ℕ) (bytes alone : List ℕ) → c < channels
     → encodeCall k pcm channels rate room ≡ result bytes → encodeCall k (channel pcm channels c) 1 rate room′ ≡ result alone
-    → Alone k pcm channels rate c bytes alone
-encoding-alone k pcm channels rate c room room′ bytes alone hc e e′ =
+    → (f : ℕ) → f < frames (headerWritten k pcm channels rate)
+    → fragmentAt (headerWritten k pcm channels rate) bytes c f ≡ fragmentAt (headerWritten k (channel pcm channels c) 1 rate) alone 0 f
+encoding-alone k pcm channels rate c room room′ bytes alone hc e e′ f hf =
     let xs = channel pcm channels c in
-    let same = frames-alone k pcm channels rate c in
-    record {
-      same-frames = same;
-      fragments = λ f hf.
-          rw (← given k pcm channels rate room e, ← given k xs 1 rate room′ e′)
-          (encoded-fragment k pcm channels rate c f hc hf
-          ∙ ap (λ l. encodedFragment k (frameOf l f)) (sym (channel-alone xs))
-          ∙ sym (encoded-fragment k xs 1 rate 0 f (omega arith) (rw same at hf)));
-      defined = λ f hf. rw (← given k pcm channels rate room e) (encoded-fragment k pcm channels rate c f hc hf);
-    }
+    let many = encoding-own k pcm channels rate c room bytes hc e in
+    let one = encoding-own k xs 1 rate 0 room′ alone (omega arith) e′ in
+    many .fragments f hf ∙ ap (λ l. encodedFragment k (frameOf l f)) (sym (channel-alone xs)) ∙ sym (one .fragments f (rw (many .same-frames) at hf))
 
 -- where the encoding of all channels is accepted, so is that of one of them alone, given the room
 pub alone-accepted : (k : Settings) (pcm : List ℤ) (channels rate c room room′ : ℕ) (bytes : List ℕ)
@@ -132,10 +126,9 @@ pub encoder-blind : (k : Settings) (pcm pcm′ : List ℤ) (channels rate c room
 unfolding frames headerWritten
 encoder-blind k pcm pcm′ channels rate c room room′ bytes bytes′ hc e e′ same f hf =
     let long : length pcm / channels ≡ length pcm′ / channels = sym (length-channel pcm channels c) ∙ ap length same ∙ length-channel pcm′ channels c in
-    rw (← given k pcm channels rate room e, ← given k pcm′ channels rate room′ e′)
-    (encoded-fragment k pcm channels rate c f hc hf
+    encoding-own k pcm channels rate c room bytes hc e .fragments f hf
     ∙ ap (λ l. encodedFragment k (frameOf l f)) same
-    ∙ sym (encoded-fragment k pcm′ channels rate c f hc (rw long at hf)))
+    ∙ sym (encoding-own k pcm′ channels rate c room′ bytes′ hc e′ .fragments f (rw long at hf))
 
 -- ---- what the encoder writes, inspection accepts
 

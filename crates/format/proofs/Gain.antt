@@ -10,14 +10,9 @@ use lib.Signed.{mag}
 use lib.ListN.{length, getD, length-map, List·getD-map}
 use Rattle.signed.specs.Signed.{isNeg, withSign, onMagnitude, clamp16}
 use Rattle.signed.proofs.Laws.{on-pos, on-neg, mag-on, clamp-pos, clamp-neg}
-use Rattle.format.specs.Gain.{nearest, pregained, peak, volumeOf, ownVolume, normalised, outputGain}
+use Rattle.format.specs.Gain.{nearest, Nearest, Cut, pregained, peak, volumeOf, ownVolume, normalised, outputGain}
 
 -- ---- rounding, of magnitudes
-
--- n is a / b to nearest: within half a unit, and a half goes up, which on a magnitude is away from zero
-pub record Nearest (n a b : ℕ) : Type 0 where
-  pub above : 2 * (n * b) ≤ 2 * a + b
-  pub below : 2 * a < 2 * (n * b) + b
 
 pub nearest-is : (a b : ℕ) → 0 < b → Nearest (nearest a b) a b
 nearest-is a b h =
@@ -33,11 +28,6 @@ nearest-only n a b h r =
   where
     close : (x y : ℕ) → 2 * (x * b) ≤ 2 * a + b → 2 * a < 2 * (y * b) + b → x < suc y
     close x y u v = lt-of-mul-lt-mul-right b {m = x} {n = suc y} (omega arith)
-
--- a / b, cut: the greatest number that is not above it
-pub record Cut (n a b : ℕ) : Type 0 where
-  pub above : n * b ≤ a
-  pub below : a < n * b + b
 
 pub cut-is : (a b : ℕ) → 0 < b → Cut (a / b) a b
 cut-is a b h =

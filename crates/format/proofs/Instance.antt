@@ -14,11 +14,11 @@ use Rattle.digits.specs.Digits.{packed}
 use Rattle.format.specs.Layout.{headerBytes, fragmentAt}
 use Rattle.format.specs.Decode.{zeroState, decodedFragment, frameDecoded}
 use Rattle.format.specs.Inspect.{inspected}
-use Rattle.format.specs.Calls.{Call, takes, other, channelOf, done, Due, Listed, Separate}
+use Rattle.format.specs.Calls.{Call, takes, other, channelOf, done, Due, Listed, InStream, Separate}
 use Rattle.format.specs.Tests.{sameSamples}
 use Rattle.format.specs.Compute.{computing}
-use Rattle.format.proofs.Separation.{separation}
-use Rattle.format.specs.declared.Variant.the-variants.{H}
+use Rattle.format.proofs.Separation.{separation, any-order}
+use Rattle.format.specs.declared.Variant.the-variants.{H, L}
 use Rattle.format.specs.declared.Header.{Header}
 
 -- version 2, two channels, a whole frame and one of 1 sample: the fragments in file order
@@ -52,6 +52,35 @@ listed-here =
 
 pub separate-here : Separate header stream calls
 separate-here = separation stream header accepted-here calls listed-here
+
+-- version 3, two channels, L, a whole frame and one of 1 sample; five calls: the last frame first, one refused (14), one that takes a
+-- fragment again
+pub header3 : Header
+header3 = record { version = 3; variant = L; channels = 2; rate = 8000; samples = 64 }
+
+pub fragment3 : ℕ → List ℕ
+fragment3 zero = 200 ∷ 40 ∷ packed 3 24 (replicate 63 3)
+fragment3 (suc zero) = 100 ∷ 88 ∷ packed 3 24 (replicate 63 6)
+fragment3 (suc (suc p)) = 50 ∷ 7 ∷ packed 3 24 (2 ∷ [])
+
+pub stream3 : List ℕ
+stream3 = headerBytes header3 ++ joined fragment3 4
+
+pub calls3 : List Call
+calls3 = takes 1 1 (blank 1) ∷ takes 0 0 (blank 63) ∷ other 0 1 L [] (blank 2) ∷ takes 1 0 (blank 63) ∷ takes 1 1 (blank 1) ∷ []
+
+accepted3-here : inspected stream3 ≡ result header3
+unfolding stream3 header3 fragment3 computing
+accepted3-here = refl
+
+in-stream-here : InStream header3 calls3
+unfolding InStream Refuses calls3 header3 blank computing
+in-stream-here =
+    (omega arith, omega arith, refl, (omega arith, omega arith, refl, (omega arith, tt, (omega arith, omega arith, refl, (omega arith, omega arith, refl, tt)))))
+
+pub separate3-here : Separate header3 stream3 calls3
+unfolding header3
+separate3-here = any-order stream3 header3 accepted3-here refl calls3 in-stream-here
 
 -- the right channel's first fragment, decoded from the state that the left channel's first one left, gives other samples
 pub one-state-differs : T (not (sameSamples

@@ -14,7 +14,7 @@ use Rattle.format.specs.Decode.{zeroState, DecodedFragment, stateBefore,
 use Rattle.format.specs.Inspect.{inspected}
 use Rattle.format.specs.Calls.{Call, takes, other, channelOf, done, put, statesNext, run, statesAfter, Due, Listed, InStream, AsDefined, reached, Separate}
 use Rattle.format.proofs.Sizes.{count-whole, place-below, place-length}
-use Rattle.format.proofs.Range.{before-range, before-anew, length-decoded, call-passes}
+use Rattle.format.proofs.Range.{zero-range, before-range, before-anew, length-decoded, call-passes, refused-anyway}
 use Rattle.format.proofs.Accepted.{Accepted, accepted}
 use Rattle.format.specs.declared.State.{State}
 use Rattle.format.specs.declared.Header.{Header}
@@ -96,7 +96,7 @@ separation d h e ks o =
     let r = separate h d (accepted d h e) ks (λ c. zeroState) (λ c. 0) (λ k hk. refl) o in
     record { calls = r .0; states = r .1 }
 
--- from version 3 on, any fragments of the stream in any order make a list
+-- from version 3 on, any fragments of the stream in any order make a list, with refused calls among them
 listed-anew : (h : Header) (d : List ℕ) → anew (h .version) ≡ true → (states : ℕ → State) (taken : ℕ → ℕ) (ks : List Call)
     → InStream h ks → Listed h d states taken ks
 unfolding InStream Listed Due
@@ -104,7 +104,8 @@ listed-anew h d e states taken [] i = tt
 listed-anew h d e states taken (takes c f out ∷ ks) i =
     let due : Due true (taken c) f = tt in
     (i .0, i .1, i .2, rw e due, listed-anew h d e (statesNext h d states (takes c f out)) (put taken c (suc f)) ks (i .3))
-listed-anew h d e states taken (other c version variant fragment out ∷ ks) i = absurd i
+listed-anew h d e states taken (other c version variant fragment out ∷ ks) i =
+    (i .0, refused-anyway version variant zeroState (states c) fragment (length out) zero-range (i .1), listed-anew h d e (statesNext h d states (other c version variant fragment out)) taken ks (i .2))
 
 pub any-order : (d : List ℕ) (h : Header) → inspected d ≡ result h → anew (h .version) ≡ true → (ks : List Call) → InStream h ks → Separate h d ks
 any-order d h i e ks s = separation d h i ks (listed-anew h d e (λ c. zeroState) (λ c. 0) ks s)

@@ -66,11 +66,13 @@ Listed h d states taken (other c version variant fragment out ∷ ks) =
     (c < h .channels) × Refuses (fragmentCall version variant (states c) fragment (length out))
     × Listed h d (statesNext h d states (other c version variant fragment out)) taken ks
 
--- calls that take any fragments of the stream, in any order, each into an output as long as its frame's count
+-- from version 3 on: calls that take any fragments of the stream, in any order, each into an output as long as its frame's count, or
+-- that the table refuses; the state that each finds is 0, 0
 unfoldable pub InStream : Header → List Call → Type 0
 InStream h [] = Unit {0}
 InStream h (takes c f out ∷ ks) = (c < h .channels) × (f < frames h) × (length out ≡ count h f) × InStream h ks
-InStream h (other c version variant fragment out ∷ ks) = ⊥
+InStream h (other c version variant fragment out ∷ ks) =
+    (c < h .channels) × Refuses (fragmentCall version variant zeroState fragment (length out)) × InStream h ks
 
 -- ---- what is claimed of them
 

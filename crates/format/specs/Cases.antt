@@ -12,7 +12,7 @@ use Rattle.format.specs.Gain.{pregained, volumeOf, normalised, outputGai
 use Rattle.format.specs.Decode.{zeroState, Called, fragmentCall, called}
 use Rattle.format.specs.Encode.{tooMany, encodeCall}
 use Rattle.format.specs.Inspect.{decodeCall}
-use Rattle.format.specs.Tests.{sameBytes, sameSamples, isState, gives, refuses, ample, settings, encodes, encodeRefused, inspects, inspectRefused, decodes}
+use Rattle.format.specs.Tests.{sameBytes, sameSamples, isState, gives, refuses, ample, settings, encodes, encodeRefused, inspects, inspectRefused, decodes, plays}
 use Rattle.format.specs.declared.Variant.{Variant}
 use Rattle.format.specs.declared.Variant.the-variants.{H, L, LPlus}
 use Rattle.format.specs.declared.State.{State}
@@ -182,5 +182,16 @@ calls =
     && sameSamples (called 2 H state (255 ∷ 7 ∷ replicate 31 0) out .output) (pos 23 ∷ pos 25 ∷ [])
     && same (called 3 H state (255 ∷ 200 ∷ 7 ∷ replicate 31 0) out) (called 3 H state (255 ∷ 88 ∷ 7 ∷ replicate 31 0) out)
 
+-- volume 0 with any codes is accepted, and gives silence; in versions 1, 2 the state moves on, even where v is 0
+abbrev silent : Bool
+silent =
+    let stream3 = good 1 (0 ∷ 88 ∷ 7 ∷ replicate 31 0) in
+    let stream2 = head 83 2 0 1 0 8 1 ++ (0 ∷ 15 ∷ replicate 31 0) in
+    inspects stream3 3 0 1 8000 1 && decodes stream3 (pos 0 ∷ [])
+    && inspects stream2 2 0 1 8 1 && decodes stream2 (pos 0 ∷ [])
+    && plays 3 H (pos 0) 0 1 (0 ∷ 88 ∷ 7 ∷ replicate 31 0) (pos 0) 0 (pos 0 ∷ [])
+    && plays 2 H (pos 0) 0 1 (0 ∷ 15 ∷ replicate 31 0) (negℤ (pos 11)) 8 (pos 0 ∷ [])
+    && plays 1 L (pos 0) 0 1 (0 ∷ 3 ∷ replicate 23 0) (pos 6) 6 (pos 0 ∷ [])
+
 abbrev pub further : Bool
-further = tables && slips && ends && bounds && orders && calls
+further = tables && slips && ends && bounds && orders && calls && silent

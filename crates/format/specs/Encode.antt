@@ -1,5 +1,6 @@
 -- Encoding: the choice of codes, a trial from each start, a fragment's bytes, a whole stream. Assumes nothing.
-use Prim.Native.Nat.{ℕ, zero, suc, _+_, _-_, _*_, _/_, _%_}
+use mathlib.Core.Path.{_≡_}
+use Prim.Native.Nat.{ℕ, zero, suc, _+_, _-_, _*_, _/_, _%_, _<_}
 use mathlib.Core.Bool.{Bool, cond}
 use mathlib.Core.List.{List, [], _∷_, _++_, map}
 use lib.Dec.{leb, ltb, eqb}
@@ -9,7 +10,7 @@ use lib.ListN.{getD, length, take, drop}
 use Rattle.outcome.specs.Outcome.{Outcome, result, refuseIf, need, _⟫_}
 use Rattle.lists.specs.Lists.{tabulate, joined, least}
 use Rattle.digits.specs.Digits.{packed}
-use Rattle.format.specs.Layout.{encoderVersion, versionFor, channelsFit, bits, payloadBytes, frameSamples, headerBytes, frames, streamLength}
+use Rattle.format.specs.Layout.{encoderVersion, versionFor, channelsFit, bits, payloadBytes, frameSamples, headerBytes, frames, streamLength, fragmentAt}
 use Rattle.format.specs.Step.{stepAt, stepped}
 use Rattle.format.specs.Gain.{pregained, ownVolume, normalised, outputGain}
 use Rattle.format.specs.Decode.{zeroState, fragmentStart}
@@ -144,3 +145,11 @@ encodeCall k pcm channels rate room =
     ⟫ refuseIf (tooMany (length pcm / channels)) 4 []
     ⟫ refuseIf (ltb room needed) 13 (needed ∷ [])
     ⟫ result (encoded k pcm channels rate)
+
+-- ---- what channel separation says of an accepted encoding: channel c has the frames of its own samples, and its fragment of each
+-- is the one that these samples alone give
+
+pub record OwnFragments (k : Settings) (pcm : List ℤ) (channels rate c : ℕ) (bytes : List ℕ) : Type 0 where
+  pub same-frames : frames (headerWritten k pcm channels rate) ≡ frames (headerWritten k (channel pcm channels c) 1 rate)
+  pub fragments : (f : ℕ) → f < frames (headerWritten k pcm channels rate)
+      → fragmentAt (headerWritten k pcm channels rate) bytes c f ≡ encodedFragment k (frameOf (channel pcm channels c) f)

@@ -1,5 +1,5 @@
 -- Pre-gain, volume, normalising and output gain. Assumes nothing.
-use Prim.Native.Nat.{ℕ, zero, suc, _+_, _*_, _/_, min, max}
+use Prim.Native.Nat.{ℕ, zero, suc, _+_, _*_, _/_, _≤_, _<_, min, max}
 use mathlib.Core.Bool.{cond}
 use mathlib.Core.List.{List}
 use lib.IntN.{ℤ, pos, natAbs}
@@ -10,6 +10,16 @@ use Rattle.format.specs.Layout.{anew, roundedUp}
 -- a / b to nearest, a half upward: of a magnitude that is away from zero
 abbrev pub nearest : ℕ → ℕ → ℕ
 nearest a b = (a + b / 2) / b
+
+-- what that means: n is within half a unit of a / b, and a half goes up
+pub record Nearest (n a b : ℕ) : Type 0 where
+  pub above : 2 * (n * b) ≤ 2 * a + b
+  pub below : 2 * a < 2 * (n * b) + b
+
+-- what cutting means: n is the greatest number that is not above a / b
+pub record Cut (n a b : ℕ) : Type 0 where
+  pub above : n * b ≤ a
+  pub below : a < n * b + b
 
 -- sample × g / 255, cut toward zero
 unfoldable pub pregained : ℕ → ℤ → ℤ

@@ -1,14 +1,15 @@
 -- Inspection, and the whole-stream decoder call that begins with it. Assumes nothing.
-use Prim.Native.Nat.{ℕ, _*_, _/_}
+use mathlib.Core.Path.{_≡_}
+use Prim.Native.Nat.{ℕ, _+_, _*_, _/_, _<_}
 use mathlib.Core.Bool.{Bool, _&&_}
 use mathlib.Core.List.{List, [], _∷_}
 use lib.Dec.{ltb, eqb}
-use lib.IntN.{ℤ}
+use lib.IntN.{ℤ, pos}
 use lib.ListN.{length, getD}
 use Rattle.outcome.specs.Outcome.{Outcome, result, refuseIf, need, _⟫_, andThen, inOrder}
 use Rattle.digits.specs.Digits.{restZero}
-use Rattle.format.specs.Layout.{knownVersion, anew, channelsFit, bits, payload, indexByte, variantOf, headerOf, frames, count, streamLength, fragmentAtPlace}
-use Rattle.format.specs.Decode.{decoded}
+use Rattle.format.specs.Layout.{knownVersion, anew, channelsFit, bits, payload, indexByte, variantOf, headerOf, frames, count, streamLength, fragmentAtPlace, fragmentAt}
+use Rattle.format.specs.Decode.{channelSample, decoded}
 use Rattle.format.specs.declared.Header.{Header}
 
 -- the first four bytes are "SQV4"
@@ -67,3 +68,13 @@ decodeCall d room =
     andThen (inspected d) λ h.
     refuseIf (ltb room (h .samples * h .channels)) 13 (h .samples * h .channels ∷ [])
     ⟫ result (record { header = h; samples = decoded h d })
+
+-- what channel separation says of two decodings: each has all its samples, and sample t of channel c is the same in both, and the
+-- definition's in each
+
+pub record Agree (h : Header) (c : ℕ) (d e : List ℕ) (xs ys : List ℤ) : Type 0 where
+  pub length-first : length xs ≡ h .samples * h .channels
+  pub length-second : length ys ≡ h .samples * h .channels
+  pub each-other : (t : ℕ) → t < h .samples → getD xs (t * h .channels + c) (pos 0) ≡ getD ys (t * h .channels + c) (pos 0)
+  pub first : (t : ℕ) → t < h .samples → getD xs (t * h .channels + c) (pos 0) ≡ channelSample h (fragmentAt h d c) t
+  pub second : (t : ℕ) → t < h .samples → getD ys (t * h .channels + c) (pos 0) ≡ channelSample h (fragmentAt h e c) t
