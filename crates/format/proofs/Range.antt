@@ -4,7 +4,7 @@ use mathlib.Core.Bool.{Bool, true, false, cond, _&&_}
 use mathlib.Core.List.{List, [], _∷_}
 use Prim.Native.Nat.{ℕ, zero, suc, _≤_, _<_}
 use native.Mathlib.Omega.{arith}
-use borrow.Author.Tests.{le-leb, lt-leb, leb-true, eq-eqb, eqb-true}
+use borrow.Author.Tests.{le-leb, lt-leb, leb-true, eq-eqb, eqb-true, not-false}
 use lib.Dec.{leb, eqb}
 use lib.Signed.{mag}
 use lib.ListN.{length, getD}
@@ -15,7 +15,7 @@ use Rattle.lists.proofs.ByIndex.{length-tabulate}
 use Rattle.signed.proofs.Laws.{clamp-fits, clampTo-le}
 use Rattle.format.specs.Layout.{knownVersion, anew, fragmentSize, frameSamples, indexByte, count}
 use Rattle.format.specs.Step.{stepped}
-use Rattle.format.specs.Decode.{zeroState, fragmentStart, codesOf, after, DecodedFragment, decodedFragment, stateBefore, fragmentFits, InRange, stateFits, fragmentCall}
+use Rattle.format.specs.Decode.{zeroState, fragmentStart, codesOf, after, DecodedFragment, decodedFragment, stateBefore, fragmentFits, InRange, stateFits, fragmentCall, stateLeft, moves}
 use Rattle.format.specs.declared.Variant.{Variant}
 use Rattle.format.specs.declared.State.{State}
 use Rattle.format.specs.declared.Header.{Header}
@@ -103,6 +103,21 @@ refused-anyway version variant s t fragment n r w =
     go true false c e w = tt
     go true true true e w = absurd w
     go true true false e w = absurd (Rattle.outcome.proofs.Flags.not-both false e refl)
+
+-- where a call does not change the channel's state, it leaves the one that it was given
+pub unmoved : (version : ℕ) (variant : Variant) (s : State) (fragment : List ℕ) (n : ℕ)
+    → moves version (fragmentCall version variant s fragment n) ≡ false → stateLeft s (fragmentCall version variant s fragment n) ≡ s
+unfolding fragmentCall need moves stateLeft
+unmoved version variant s fragment n = go (knownVersion version) (fragmentFits version variant fragment n) (stateFits version s)
+  where
+    chain : Bool → Bool → Bool → Outcome DecodedFragment
+    chain a b c = need a 7 (version ∷ []) (need b 14 [] (need c 15 [] (result (decodedFragment version variant s fragment n))))
+
+    go : (a b c : Bool) → moves version (chain a b c) ≡ false → stateLeft s (chain a b c) ≡ s
+    go false b c e = refl
+    go true false c e = refl
+    go true true false e = refl
+    go true true true e = returned-anew version variant s fragment n (not-false (anew version) e)
 
 -- ---- what the checks tell
 

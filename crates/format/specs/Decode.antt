@@ -1,7 +1,7 @@
 -- Samples: one fragment, a channel from its own fragments, a whole stream, and the public decoder for one fragment.
 -- Assumes nothing.
 use Prim.Native.Nat.{ℕ, zero, suc, _*_, _/_, _%_, _≤_, min}
-use mathlib.Core.Bool.{Bool, cond, _&&_, _||_}
+use mathlib.Core.Bool.{Bool, false, not, cond, _&&_, _||_}
 use mathlib.Core.List.{List, [], _∷_}
 use lib.Dec.{leb, eqb}
 use lib.IntN.{ℤ, pos}
@@ -104,6 +104,11 @@ fragmentCall version variant s fragment n =
 unfoldable pub stateLeft : State → Outcome DecodedFragment → State
 stateLeft s (result r) = r .state
 stateLeft s (refused n vs) = s
+
+-- whether a call changes the channel's state: a result of versions 1, 2. Else the state is not stored, not even with its own value
+unfoldable pub moves : {A : Type 0} → ℕ → Outcome A → Bool
+moves version (result r) = not (anew version)
+moves version (refused n vs) = false
 
 -- all that a call does: its answer, and its output and its state after it
 pub record Called : Type 0 where
