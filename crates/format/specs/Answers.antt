@@ -88,7 +88,7 @@ unfoldable pub fragmentDecodedOf : FragmentDecoded → Outcome ℕ
 fragmentDecodedOf (F.Filled n) = result n
 fragmentDecodedOf (F.Refused e) = refusal e
 
--- the promise of the fragment decoder, by value and with a lent state: answer, state and output are those of `called`
+-- the promise of the fragment decoder: answer, state and output are those of `called`
 pub record AsCalled (version : ℕ) (variant : Variant) (s : State) (fragment : List ℕ) (out : List ℤ) (answer : FragmentDecoded) (state : State) (output : List ℤ) : Type 0 where
   pub answered : fragmentDecodedOf answer ≡ onResult (λ (r : DecodedFragment). length (r .samples)) (called version variant s fragment out .answer)
   pub state-after : state ≡ called version variant s fragment out .state

@@ -1,4 +1,4 @@
-// The public decoder for one fragment: its checks, by value and with a lent state.
+// The public decoder for one fragment, by value: its checks.
 ghost use mathlib.Core.Path.{_≡_};
 ghost use Rattle.format.specs.Decode.{fragmentFits, stateFits};
 ghost use Rattle.format.specs.Answers.{AsCalled};
@@ -76,41 +76,5 @@ pub fn decode_one(
     Returned {
         answer: FragmentDecoded::Filled(n),
         state: next,
-    }
-}
-
-// The same with the channel's state lent: it is changed in place.
-pub fn decode_lent(
-    version: u8,
-    variant: Variant,
-    state: &mut State,
-    fragment: &[u8],
-    out: &mut [i16],
-) -> FragmentDecoded
-    ensures { λ r. ⌜ AsCalled version variant (now (state .entry)) (now (fragment .entry)) (now (out .entry))
-        r (now (state .exit)) (now (out .exit)) ⌝ }
-{
-    let s = *state;
-    let r = decode_one(version, variant, s, fragment, out);
-    *state = r.state;
-    r.answer
-}
-
-// The lent form with plain parameters: a local state is lent and returned.
-pub fn decode_through_lent(
-    version: u8,
-    variant: Variant,
-    state: State,
-    fragment: &[u8],
-    out: &mut [i16],
-) -> Returned
-    ensures { λ r. ⌜ AsCalled version variant state (now (fragment .entry)) (now (out .entry))
-        (r .answer) (r .state) (now (out .exit)) ⌝ }
-{
-    let mut s = state;
-    let answer = decode_lent(version, variant, &mut s, fragment, out);
-    Returned {
-        answer: answer,
-        state: s,
     }
 }

@@ -14,6 +14,7 @@ ghost use mathlib.Core.Path.{_≡_};
 ghost use lib.ListN.{length};
 ghost use Rattle.outcome.specs.Outcome.{result};
 ghost use Rattle.format.specs.Answers.{refusal, inspectedOf, encodedOf, decodedOf, fragmentDecodedOf};
+ghost use Rattle.format.specs.Decode.{moves};
 ghost use Rattle.format.specs.Inspect.{inspected, decodeCall};
 ghost use Rattle.wav_format.specs.Answers as wave;
 ghost use Rattle.wav_format.specs.Samples.{samplesCall};
@@ -246,29 +247,47 @@ pub extern "C" fn postlapse_decode(file: &[u8], out: &mut [i16]) -> HeaderAnswer
     decoded_answer(decoder::decode(file, out))
 }
 
-// What decoding one fragment comes to: the answer, and the channel's state after the call.
+// Whether a call changes the channel's state: a result of versions 1 and 2.
+fn moves(version: u8, answer: FragmentDecoded) -> bool
+    ensures { λ r. ⌜ r ≡ moves version (fragmentDecodedOf answer) ⌝ }
+{
+    match answer {
+        FragmentDecoded::Filled(_) => version < 3,
+        FragmentDecoded::Refused(_) => false,
+    }
+}
+
+// What decoding one fragment comes to: the answer, the channel's state after the call, and whether the call changes that state.
 struct Played {
     answer: Answer,
     state: State,
+    moved: bool,
 }
 
 // Decodes one fragment of the variant that a byte names.
 fn play(version: u8, byte: u8, state: State, fragment: &[u8], out: &mut [i16]) -> Played
-    ensures { λ r. ⌜ Plays (fragmentForC version byte state (now (fragment .entry)) (length (now (out .entry))))
-        state (now (out .entry)) (r .answer) (r .state) (now (out .exit)) ⌝ }
+    ensures { λ r. ⌜ (Plays (fragmentForC version byte state (now (fragment .entry)) (length (now (out .entry))))
+        state (now (out .entry)) (r .answer) (r .state) (now (out .exit)))
+        × (r .moved ≡ moves version (fragmentForC version byte state (now (fragment .entry)) (length (now (out .entry))))) ⌝ }
 {
     if 2 < byte {
         let answer = refused_answer(Error::InvalidVariant(byte));
-        return Played { answer, state };
+        return Played {
+            answer,
+            state,
+            moved: false,
+        };
     }
     let variant = Variant::from_byte(byte);
     let r = fragment::decode_one(version, variant, state, fragment, out);
     let given = r.answer;
     let next = r.state;
     let answer = played_answer(given);
+    let moved = moves(version, given);
     Played {
         answer,
         state: next,
+        moved,
     }
 }
 
@@ -296,7 +315,7 @@ pub extern "C" fn postlapse_decode_fragment(
     }
 }
 
-// The same with the channel's state lent: it is changed in place.
+// The same with the channel's state lent: predictor and index are stored where the call changes them, and else nothing is.
 #[no_mangle]
 pub extern "C" fn postlapse_decode_fragment_lent(
     version: u8,
@@ -310,8 +329,34 @@ pub extern "C" fn postlapse_decode_fragment_lent(
 {
     let s = *state;
     let r = play(version, variant, s, fragment, out);
-    *state = r.state;
+    if r.moved {
+        state.predictor = r.state.predictor;
+        state.index = r.state.index;
+    }
     r.answer
+}
+
+// What the lent form gives where a state of the caller's own is lent: its answer, and the state that comes back.
+pub struct Returned {
+    pub answer: Answer,
+    pub state: State,
+}
+
+// The lent form with plain parameters: a local state is lent to it, and comes back with the answer. It is there so that a program
+// of plain data can run the lent form: replay does, at every recorded fragment.
+pub fn decode_through_lent(
+    version: u8,
+    variant: u8,
+    state: State,
+    fragment: &[u8],
+    out: &mut [i16],
+) -> Returned
+    ensures { λ r. ⌜ Plays (fragmentForC version variant state (now (fragment .entry)) (length (now (out .entry))))
+        state (now (out .entry)) (r .answer) (r .state) (now (out .exit)) ⌝ }
+{
+    let mut s = state;
+    let answer = postlapse_decode_fragment_lent(version, variant, &mut s, fragment, out);
+    Returned { answer, state: s }
 }
 
 // What a WAV file says, and where its sample bytes lie.

@@ -15,7 +15,7 @@ refused-answer-requires c κs = search needs
 
 returns : tie.Need-returns
 unfolding fragmentForC numberOf valuesOf
-returns c = plays-none (met _ _ _ _ (lt-ltb 2 (c .before .before .before .args .byte) (omega arith))) (c .refused-answer .ensures)
+returns c = plays-none _ (met _ _ _ _ (lt-ltb 2 (c .before .before .before .args .byte) (omega arith))) (c .refused-answer .ensures)
 
 from-byte-requires : tie.Need-from-byte-requires
 from-byte-requires c κs = search needs
@@ -26,12 +26,17 @@ decode-one-requires c κs = search needs
 played-answer-requires : tie.Need-played-answer-requires
 played-answer-requires c κs = search needs
 
+moves-requires : tie.Need-moves-requires
+moves-requires c κs = search needs
+
 same-length : tie.Need-same-length
 same-length c = search needs
 
 returns-2 : tie.Need-returns-2
 unfolding fragmentForC called
-returns-2 c = plays-as (clear _ _ _ _ _ (le-ltb 2 (c .before .before .before .before .before .before .before .before .args .byte) (omega arith)) (rw (c .before .before .before .before .before .from-byte .ensures))) (c .played-answer .ensures) (c .before .before .before .decode-one .ensures .answered) (c .before .before .before .decode-one .ensures .state-after) (c .before .before .before .decode-one .ensures .output-after)
+returns-2 c =
+    plays-as _ (clear _ _ _ _ _ (le-ltb 2 (c .before .before .before .before .before .before .before .before .before .args .byte) (omega arith)) (rw (c .before .before .before .before .before .before .from-byte .ensures)))
+    (c .before .played-answer .ensures) (c .before .before .before .before .decode-one .ensures .answered) (c .before .before .before .before .decode-one .ensures .state-after) (c .before .before .before .before .decode-one .ensures .output-after) (c .moves .ensures)
 
 pub play-spec : {M : Type 1} → statement M
 play-spec =
@@ -42,5 +47,6 @@ play-spec =
     from-byte-requires
     decode-one-requires
     played-answer-requires
+    moves-requires
     same-length
     returns-2)

@@ -17,7 +17,7 @@ returns : tie.Need-returns
 returns c =
     let p = c .before .before .before .before .play in
     let f : SFits w32 (p .result .state .predictor) = search needs in
-    rw (toZ-ofZ f) (plays-by-value _ _ _ (rw (toZ-ofZ (c .before .before .before .before .before .before .before .fits .predictor))) (p .ensures))
+    rw (toZ-ofZ f) (plays-by-value _ _ _ (rw (toZ-ofZ (c .before .before .before .before .before .before .before .fits .predictor))) (p .ensures .0))
 
 pub postlapse-decode-fragment-spec : {M : Type 1} → statement M
 postlapse-decode-fragment-spec = tie.close (tie.spec play-requires same-length returns)
