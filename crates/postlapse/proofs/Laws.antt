@@ -7,10 +7,11 @@ use lib.Dec.{ltb}
 use borrow.Author.Tests.{lt-ltb, le-ltb, leb-true, leb-false}
 use lib.IntN.{ℤ}
 use lib.ListN.{length}
-use Rattle.outcome.specs.Outcome.{Outcome, result, refused, refuseIf, onResult, outputAfter}
+use Rattle.outcome.specs.Outcome.{Outcome, result, refused, andThen, onResult, outputAfter}
 use Rattle.format.specs.Layout.{anew, variantOf}
 use Rattle.format.specs.Decode.{DecodedFragment, fragmentCall, stateLeft, moves}
 use Rattle.format.specs.declared.State.{State}
+use Rattle.format.specs.declared.Variant.{Variant}
 use Rattle.format.proofs.Range.{unmoved}
 use Rattle.postlapse.specs.Answers.{answerOf, withState}
 use Rattle.postlapse.specs.Promises.{fragmentForC, Fills, Plays, PlaysByValue}
@@ -66,17 +67,17 @@ module _ (version : ℕ) {o : Outcome DecodedFragment} {s : State} {out : List �
 pub plays-unmoved : (version variant : ℕ) (s : State) (fragment : List ℕ) (n : ℕ) {out output : List ℤ} {answer : Answer} {state : State}
     → Plays (fragmentForC version variant s fragment n) s out answer state output → moves version (fragmentForC version variant s fragment n) ≡ false
     → Plays (fragmentForC version variant s fragment n) s out answer s output
-unfolding fragmentForC refuseIf stateLeft
+unfolding fragmentForC andThen stateLeft
 plays-unmoved version variant s fragment n p e =
-    record { answered = p .answered; state-after = sym (go (ltb 2 variant) e); output-after = p .output-after }
+    record { answered = p .answered; state-after = sym (go (variantOf variant) e); output-after = p .output-after }
   where
-    -- a byte above 2 is refused first; else it is the fragment decoder's law
-    forByte : Bool → Outcome DecodedFragment
-    forByte b = refuseIf b 8 (variant ∷ []) (fragmentCall version (variantOf variant) s fragment n)
+    -- a byte that names no variant is refused first; else it is the fragment decoder's law
+    call : Variant → Outcome DecodedFragment
+    call v = fragmentCall version v s fragment n
 
-    go : (b : Bool) → moves version (forByte b) ≡ false → stateLeft s (forByte b) ≡ s
-    go true e = refl
-    go false e = unmoved version (variantOf variant) s fragment n e
+    go : (o : Outcome Variant) → moves version (andThen o call) ≡ false → stateLeft s (andThen o call) ≡ s
+    go (result v) e = unmoved version v s fragment n e
+    go (refused m vs) e = refl
 
 -- answer and state in one struct, where the call was given the state s as t
 pub plays-by-value : (version variant : ℕ) (fragment : List ℕ) {s t next : State} {out output : List ℤ} {answer : Answer} → t ≡ s

@@ -1,11 +1,10 @@
 -- The calls for C, and what they promise: answer, state and every lent place are those of the call's outcome. Assumes nothing.
 use mathlib.Core.Path.{_≡_}
 use Prim.Native.Nat.{ℕ}
-use mathlib.Core.List.{List, [], _∷_}
-use lib.Dec.{ltb}
+use mathlib.Core.List.{List}
 use lib.IntN.{ℤ}
 use lib.ListN.{length}
-use Rattle.outcome.specs.Outcome.{Outcome, refuseIf, _⟫_, onResult, outputAfter}
+use Rattle.outcome.specs.Outcome.{Outcome, andThen, onResult, outputAfter}
 use Rattle.format.specs.Layout.{variantOf}
 use Rattle.format.specs.Decode.{DecodedFragment, fragmentCall, stateLeft}
 use Rattle.format.specs.Encode.{encodeCall}
@@ -20,12 +19,11 @@ use Rattle.postlapse.specs.declared.FragmentAnswer.{FragmentAnswer}
 
 unfoldable pub encodeForC : ℕ → ℕ → List ℤ → ℕ → ℕ → ℕ → Outcome (List ℕ)
 encodeForC variant gain pcm channels rate room =
-    refuseIf (ltb 2 variant) 8 (variant ∷ [])
-    ⟫ encodeCall (record { variant = variantOf variant; gain = gain }) pcm channels rate room
+    andThen (variantOf variant) λ v. encodeCall (record { variant = v; gain = gain }) pcm channels rate room
 
 unfoldable pub fragmentForC : ℕ → ℕ → State → List ℕ → ℕ → Outcome DecodedFragment
 fragmentForC version variant s fragment n =
-    refuseIf (ltb 2 variant) 8 (variant ∷ []) ⟫ fragmentCall version (variantOf variant) s fragment n
+    andThen (variantOf variant) λ v. fragmentCall version v s fragment n
 
 -- ---- promises
 

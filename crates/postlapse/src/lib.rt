@@ -7,6 +7,7 @@ use format::Header;
 use format::Inspected;
 use format::State;
 use format::Variant;
+use format::VariantRead;
 use wav_format::WaveError;
 use wav_format::WaveFilled;
 use wav_format::WaveRead;
@@ -223,11 +224,12 @@ pub extern "C" fn postlapse_encode(
     ensures { λ r. ⌜ Fills (encodeForC variant gain (now (pcm .entry)) channels rate (length (now (out .entry))))
         (now (out .entry)) r (now (out .exit)) ⌝ }
 {
-    if 2 < variant {
-        return refused_answer(Error::InvalidVariant(variant));
+    match Variant::try_from(variant) {
+        VariantRead::Known(kind) => {
+            encoded_answer(encoder::encode_interleaved(pcm, channels, rate, kind, gain, out))
+        }
+        VariantRead::Refused(e) => refused_answer(e),
     }
-    let kind = Variant::from_byte(variant);
-    encoded_answer(encoder::encode_interleaved(pcm, channels, rate, kind, gain, out))
 }
 
 // The header of a stream that is sound throughout.
@@ -270,24 +272,27 @@ fn play(version: u8, byte: u8, state: State, fragment: &[u8], out: &mut [i16]) -
         state (now (out .entry)) (r .answer) (r .state) (now (out .exit)))
         × (r .moved ≡ moves version (fragmentForC version byte state (now (fragment .entry)) (length (now (out .entry))))) ⌝ }
 {
-    if 2 < byte {
-        let answer = refused_answer(Error::InvalidVariant(byte));
-        return Played {
-            answer,
-            state,
-            moved: false,
-        };
-    }
-    let variant = Variant::from_byte(byte);
-    let r = fragment::decode_one(version, variant, state, fragment, out);
-    let given = r.answer;
-    let next = r.state;
-    let answer = played_answer(given);
-    let moved = moves(version, given);
-    Played {
-        answer,
-        state: next,
-        moved,
+    match Variant::try_from(byte) {
+        VariantRead::Known(variant) => {
+            let r = fragment::decode_one(version, variant, state, fragment, out);
+            let given = r.answer;
+            let next = r.state;
+            let answer = played_answer(given);
+            let moved = moves(version, given);
+            Played {
+                answer,
+                state: next,
+                moved,
+            }
+        }
+        VariantRead::Refused(e) => {
+            let answer = refused_answer(e);
+            Played {
+                answer,
+                state,
+                moved: false,
+            }
+        }
     }
 }
 

@@ -1,24 +1,19 @@
--- `postlapse::play` meets its contract: a byte above 2 is refused first, and else the fragment decoder answers. Assumes nothing.
-use native.Mathlib.Omega.{arith}
-use borrow.Author.Needs.{needs}
-use borrow.Author.Tests.{lt-ltb, le-ltb}
-use Rattle.format.specs.Answers.{numberOf, valuesOf}
-use Rattle.format.specs.Decode.{called}
-use Rattle.outcome.proofs.Laws.{met, clear}
-use Rattle.postlapse.specs.Promises.{fragmentForC}
+-- `postlapse::play` meets its contract: a byte that names no variant is refused first, and else the fragment decoder answers. Assumes nothing.
 use Rattle.postlapse.proofs.Laws.{plays-none, plays-as}
+use Rattle.postlapse.specs.Promises.{fragmentForC}
+use Rattle.outcome.proofs.Laws.{then-result, then-refused}
+use Rattle.format.specs.Decode.{called}
+use Rattle.format.specs.Answers.{variantReadOf}
+use mathlib.Core.Path.{refl, sym}
+use borrow.Author.Needs.{needs}
 use Rattle.postlapse.proofs.play.Statement.{statement}
 use Rattle.postlapse.proofs.play.Tie as tie
 
-refused-answer-requires : tie.Need-refused-answer-requires
-refused-answer-requires c κs = search needs
+try-from-requires : tie.Need-try-from-requires
+try-from-requires c κs = search needs
 
-returns : tie.Need-returns
-unfolding fragmentForC numberOf valuesOf
-returns c = plays-none _ (met _ _ _ _ (lt-ltb 2 (c .before .before .before .args .byte) (omega arith))) (c .refused-answer .ensures)
-
-from-byte-requires : tie.Need-from-byte-requires
-from-byte-requires c κs = search needs
+enum-known-variant : tie.Need-enum-known-variant
+enum-known-variant c = search needs
 
 decode-one-requires : tie.Need-decode-one-requires
 decode-one-requires c κs = search needs
@@ -29,24 +24,37 @@ played-answer-requires c κs = search needs
 moves-requires : tie.Need-moves-requires
 moves-requires c κs = search needs
 
+enum-known-e : tie.Need-enum-known-e
+enum-known-e c = search needs
+
+refused-answer-requires : tie.Need-refused-answer-requires
+refused-answer-requires c κs = search needs
+
 same-length : tie.Need-same-length
 same-length c = search needs
 
+returns : tie.Need-returns
+unfolding fragmentForC variantReadOf called
+returns c = let v = rw (c .before .before .before .before .before .before .before .variant .given .1) at (c .before .before .before .before .before .before .before .before .before .try-from .ensures) in
+    let call = c .before .before .before .before .decode-one .ensures in
+    plays-as _ (then-result _ _ _ _ v refl) (c .before .played-answer .ensures) (call .answered) (call .state-after) (call .output-after) (c .moves .ensures)
+
 returns-2 : tie.Need-returns-2
-unfolding fragmentForC called
-returns-2 c =
-    plays-as _ (clear _ _ _ _ _ (le-ltb 2 (c .before .before .before .before .before .before .before .before .before .args .byte) (omega arith)) (rw (c .before .before .before .before .before .before .from-byte .ensures)))
-    (c .before .played-answer .ensures) (c .before .before .before .before .decode-one .ensures .answered) (c .before .before .before .before .decode-one .ensures .state-after) (c .before .before .before .before .decode-one .ensures .output-after) (c .moves .ensures)
+unfolding fragmentForC variantReadOf
+returns-2 c = let v = rw (c .before .before .e .given .1) at (c .before .before .before .before .try-from .ensures) in
+    plays-none _ (then-refused _ _ _ _ v) (c .refused-answer .ensures)
 
 pub play-spec : {M : Type 1} → statement M
 play-spec =
     tie.close
     (tie.spec
-    refused-answer-requires
-    returns
-    from-byte-requires
+    try-from-requires
+    enum-known-variant
     decode-one-requires
     played-answer-requires
     moves-requires
+    enum-known-e
+    refused-answer-requires
     same-length
+    returns
     returns-2)
