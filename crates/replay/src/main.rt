@@ -1,8 +1,8 @@
-// Replays answers that were recorded from the Rust and from decoders of IMA ADPCM. Each file of data/ holds questions: to the encoder,
-// to inspection, to the decoder, to the fragment decoder, to the reader and the writer of WAV files, to the converter and to the
-// inspector, each with the Rust's answer as bytes; and ima, to both decoders, with the samples and states of IMA. oracle/README.md has
-// the layout. Each question is asked of the proved functions, and the answer's bytes are compared. The program prints for each file how
-// many answers there were and how many differ.
+// Replays answers that were recorded from the Rust and from decoders of IMA ADPCM. Each file of data/ holds questions of one kind: to the
+// encoder, to inspection, to the decoder, to the fragment decoder, to the reader and the writer of WAV files, to the converter and to the
+// inspector, each with the Rust's answer as bytes. The file ima has more for both decoders, with what those of IMA ADPCM gave.
+// oracle/README.md has the layout. Each question is asked of the proved functions, and the answer's bytes are compared. The program prints
+// for each file how many answers there were and how many differ.
 use format::Decoded;
 use format::Encoded;
 use format::Error;
