@@ -3,7 +3,7 @@ use mathlib.Core.Path.{_≡_, refl, sym, ap, ap₂, _∙_}
 use mathlib.Core.List.{List, [], _∷_, _++_, append-assoc, append-nil}
 use mathlib.Core.Bool.{true, false}
 use Prim.Native.Nat.{ℕ, zero, suc, _+_, _-_, _*_, _/_, _%_, _^_, _≤_, _<_, suc-le-suc}
-use native.Mathlib.Nat.{add-zero, add-comm, mul-comm, mul-zero, mul-suc, div-one, zero-div, zero-mod, div-eq-of-lt, mod-eq-of-lt, mod-lt, mod-one, lt-of-lt-of-le, div-lt-iff-lt-mul, one-mul, mul-one, mul-add, zero-lt-suc, add-sub-cancel-left, not-suc-le-zero, le-of-suc-le-suc, le-of-eq}
+use native.Mathlib.Nat.{add-zero, add-comm, mul-comm, mul-zero, mul-suc, div-one, zero-div, zero-mod, div-eq-of-lt, mod-eq-of-lt, mod-lt, mod-one, lt-of-lt-of-le, div-lt-iff-lt-mul, one-mul, zero-lt-suc, add-sub-cancel-left, not-suc-le-zero, le-of-suc-le-suc, le-of-eq}
 use native.Mathlib.Omega.{arith}
 use borrow.Author.Tests.{eq-eqb, eqb-true, ne-eqb}
 use lib.ListN.{length, getD, take, drop, length-drop, drop-of-length-le}
@@ -188,50 +188,6 @@ window w bytes small k r fits =
     let both : getD bytes k 0 + 256 * getD bytes (k + 1) 0 ≡ bitsAt 16 (8 * k) (number 8 bytes) =
     omega (arith, bits-join (number 8 bytes) (8 * k) 8 8, number-at 8 bytes small k, high) in
     ap (bitsAt w r) both ∙ bits-bits (number 8 bytes) (8 * k) 16 r w fits
-
--- ---- the state of a loop that reads digits of a bits and writes digits of b bits
-
--- acc holds the `have` bits of x from its b-bit digit j on, and the first i digits of a bits have been read
-pub record Held (x a b acc have i j : ℕ) : Type 0 where
-  pub bits : acc ≡ bitsAt have (b * j) x
-  pub place : b * j + have ≡ a * i
-  pub few : have < 16
-
-pub held-none : (x a b : ℕ) → Held x a b 0 0 0 0
-held-none x a b = record { bits = sym (mod-one (x / 2 ^ (b * 0))); place = omega (arith, mul-zero a, mul-zero b); few = omega arith }
-
-pub held-lt : {x a b acc have i j : ℕ} → Held x a b acc have i j → acc < 2 ^ have
-held-lt {x} {a} {b} {acc} {have} {i} {j} h = rw (h .bits) (bits-lt x (b * j) have)
-
--- a digit more is read
-pub held-more : (a b : ℕ) (ds : List ℕ) → Small a ds → {acc have i j : ℕ} → have < 8 → a ≤ 8 → Held (number a ds) a b acc have i j
-    → Held (number a ds) a b (acc + getD ds i 0 * 2 ^ have) (have + a) (i + 1) j
-held-more a b ds small {acc} {have} {i} {j} lt le h = record {
-  bits =
-      ap₂ (λ (x y : ℕ). x + y * 2 ^ have) (h .bits)
-      (sym (number-at a ds small i) ∙ ap (λ (e : ℕ). bitsAt a e (number a ds)) (sym (h .place)))
-      ∙ bits-join (number a ds) (b * j) have a;
-  place = omega (arith, h .place, mul-add a i 1, mul-one a);
-  few = omega arith;
-}
-
--- a digit is written
-module _ (x a b : ℕ) {acc have i j : ℕ} (h : Held x a b acc have i j) (le : b ≤ have) where
-  split : have ≡ (have - b) + b
-  split = omega arith
-
-  pub held-digit : acc % 2 ^ b ≡ bitsAt b (b * j) x
-  held-digit = ap (λ (y : ℕ). y % 2 ^ b) (h .bits ∙ ap (λ (n : ℕ). bitsAt n (b * j) x) split) ∙ bits-low x (b * j) b (have - b)
-
-  pub held-less : Held x a b (acc / 2 ^ b) (have - b) i (j + 1)
-  held-less = record {
-    bits =
-        ap (λ (y : ℕ). y / 2 ^ b) (h .bits ∙ ap (λ (n : ℕ). bitsAt n (b * j) x) split)
-        ∙ bits-high x (b * j) b (have - b)
-        ∙ ap (λ (e : ℕ). bitsAt (have - b) e x) (omega (arith, mul-add b j 1, mul-one b));
-    place = omega (arith, h .place, mul-add b j 1, mul-one b);
-    few = omega (arith, h .few);
-  }
 
 -- ---- the bits past a place
 

@@ -1,10 +1,18 @@
 -- `player::unpack` meets its contract. Assumes nothing.
-use mathlib.Core.Path.{_∙_}
+use mathlib.Core.Path.{_≡_, refl, _∙_}
+use native.Mathlib.Omega.{arith}
 use borrow.Author.Needs.{needs}
+use Rattle.format.specs.Layout.{bits, payloadBytes}
+use Rattle.format.specs.declared.Variant.{Variant}
+use Rattle.format.specs.declared.Variant.the-variants.{H, L, LPlus}
 use Rattle.format.proofs.Sizes.{three-bits}
-use Rattle.player.proofs.Unpacking.{payload-three}
 use Rattle.player.proofs.unpack.Statement.{statement}
 use Rattle.player.proofs.unpack.Tie as tie
+
+payload-three : (variant : Variant) → bits variant ≡ 3 → payloadBytes variant ≡ 24
+payload-three H e = let z : ⊥ = omega arith in absurd z
+payload-three L e = refl
+payload-three LPlus e = refl
 
 enum-told : tie.Need-enum-told
 enum-told c = search needs

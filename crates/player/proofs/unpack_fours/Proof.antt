@@ -1,23 +1,21 @@
--- `player::unpack_fours` meets its contract. Assumes nothing.
-use Prim.Native.Nat.{_-_, _*_, _+_, _≤_}
+-- `player::unpack_fours` meets its contract: a turn reads a byte and writes two codes of 4 bits. Assumes nothing.
+use Prim.Native.Nat.{_-_, _*_, _+_}
 use native.Mathlib.Omega.{arith}
-use mathlib.Core.Path.{_≡_}
-use lib.ListN.{length}
-use Rattle.lists.proofs.ByIndex.{Filled, filled-none, filled-more}
-use Rattle.digits.specs.Digits.{codeAt}
+use mathlib.Core.Path.{_≡_, refl}
+use lib.ListN.{length, getD}
 use Rattle.digits.proofs.Laws.{Small}
-use Rattle.player.proofs.Unpacking.{unpacked-all, low-code, high-code}
+use Rattle.digits.proofs.Regrouping.{Regrouped, regrouped-none, regrouped-digit, regrouped-write, regrouped-even, regrouped-all}
 use Rattle.player.proofs.unpack_fours.Statement.{statement}
 use Rattle.player.proofs.unpack_fours.Tie as tie
 
 abbrev Inv-loop : tie.InvT-loop
-Inv-loop payload codes₀ i₀ codes i = (i ≤ 32) × (length payload ≡ 32) × Filled (λ k. codeAt 4 k payload) 64 (2 * i) codes
+Inv-loop payload codes₀ i₀ codes i = (length payload ≡ 32) × Regrouped 8 4 payload 64 codes 0 0 i (2 * i)
 
 abbrev μ-loop : tie.MeasureT-loop
 μ-loop payload codes₀ i₀ codes i = 32 - i
 
 loop-holds : tie.Need-loop-holds Inv-loop μ-loop
-loop-holds c = (omega arith, c .pre .0, filled-none _ _ (c .pre .1))
+loop-holds c = (c .pre .0, regrouped-none 8 4 _ (c .pre .1))
 
 shared-slice-read-b : tie.Need-shared-slice-read-b Inv-loop μ-loop
 shared-slice-read-b c = omega arith
@@ -46,13 +44,15 @@ loop-less c = omega arith
 loop-again : tie.Need-loop-again Inv-loop μ-loop
 loop-again c =
     let p = c .before .before .before .args .payload .now in
-    let i = c .before .before .loop .i in
+    let l = c .before .before .loop in
     let small : Small 8 p = λ k. c .shared-slice-known .given k .fits in
-    let e : 2 * (i + 1) ≡ 2 * i + 1 + 1 = omega arith in
-    (omega arith, c .before .before .loop .inv .1, rw e (filled-more _ _ (filled-more _ _ (c .before .before .loop .inv .2) (omega arith) (low-code p small i)) (omega arith) (high-code p small i)))
+    let e : 2 * (l .i + 1) ≡ 2 * l .i + 1 + 1 = omega arith in
+    let byte = regrouped-digit (l .inv .1) small {x = getD p (l .i) 0} (omega arith) in
+    let low = regrouped-write byte {rest = 4} refl (omega arith) refl in
+    (l .inv .0, rw e (regrouped-even (regrouped-write low refl (omega arith) (omega (arith, small (l .i))))))
 
 returns : tie.Need-returns Inv-loop μ-loop
-returns c = unpacked-all 4 _ (c .before .loop .inv .2) (omega arith)
+returns c = regrouped-all (c .before .loop .inv .1) (omega arith)
 
 pub unpack-fours-spec : {M : Type 1} → statement M
 unpack-fours-spec =

@@ -1,29 +1,27 @@
--- `player::unpack_threes` meets its contract. Assumes nothing.
+-- `player::unpack_threes` meets its contract: a turn reads three bytes and writes eight codes of 3 bits. Assumes nothing.
 use Prim.Native.Nat.{_-_, _*_, _+_, _≤_, _<_}
+use native.Mathlib.Nat.{mul-add}
 use native.Mathlib.Omega.{arith}
-use mathlib.Core.Path.{_≡_}
+use mathlib.Core.Path.{_≡_, refl}
 use lib.ListN.{length}
-use Rattle.lists.proofs.ByIndex.{Filled, filled-none, filled-more}
-use Rattle.digits.specs.Digits.{codeAt}
-use Rattle.digits.proofs.Laws.{Small}
-use Rattle.player.proofs.Unpacking.{unpacked-all, Left, left-none, left-more, left-code}
+use Rattle.digits.proofs.Regrouping.{Regrouped, regrouped-none, regrouped-read, regrouped-write, regrouped-even, regrouped-all}
 use Rattle.player.proofs.unpack_threes.Statement.{statement}
 use Rattle.player.proofs.unpack_threes.Tie as tie
 
 abbrev Inv-loop2 : tie.InvT-loop2
-Inv-loop2 payload codes₀ i w₀ j₀ codes w j = (j ≤ 8) × (i < 8) × Left payload i j w × Filled (λ k. codeAt 3 k payload) 64 (8 * i + j) codes
+Inv-loop2 payload codes₀ i w₀ j₀ codes w j = (j ≤ 8) × (i < 8) × Regrouped 8 3 payload 64 codes w (24 - 3 * j) (3 * i + 3) (8 * i + j)
 
 abbrev μ-loop2 : tie.MeasureT-loop2
 μ-loop2 payload codes₀ i w₀ j₀ codes w j = 8 - j
 
 abbrev Inv-loop : tie.InvT-loop
-Inv-loop payload codes₀ i₀ codes i = (i ≤ 8) × (length payload ≡ 24) × Filled (λ k. codeAt 3 k payload) 64 (8 * i) codes
+Inv-loop payload codes₀ i₀ codes i = (length payload ≡ 24) × Regrouped 8 3 payload 64 codes 0 0 (3 * i) (8 * i)
 
 abbrev μ-loop : tie.MeasureT-loop
 μ-loop payload codes₀ i₀ codes i = 8 - i
 
 loop-holds : tie.Need-loop-holds Inv-loop2 μ-loop2 Inv-loop μ-loop
-loop-holds c = (omega arith, c .before .pre .0, filled-none _ _ (c .before .pre .1))
+loop-holds c = (c .before .pre .0, regrouped-none 8 3 _ (c .before .pre .1))
 
 mul-word : tie.Need-mul-word Inv-loop2 μ-loop2 Inv-loop μ-loop
 mul-word c = omega arith
@@ -33,8 +31,9 @@ word-requires c κs = omega arith
 
 loop2-holds : tie.Need-loop2-holds Inv-loop2 μ-loop2 Inv-loop μ-loop
 loop2-holds c =
-    let e : 8 * c .before .before .loop .i + 0 ≡ 8 * c .before .before .loop .i = omega arith in
-    (omega arith, omega arith, left-none _ _ (c .word .ensures), rw e (c .before .before .loop .inv .2))
+    let l = c .before .before .loop in
+    let e : 8 * l .i + 0 ≡ 8 * l .i = omega arith in
+    (omega arith, omega arith, rw e (regrouped-read (l .inv .1) (λ k. c .before .before .before .shared-slice-known .given k .fits) 3 (omega (arith, c .word .ensures))))
 
 cast-codes : tie.Need-cast-codes Inv-loop2 μ-loop2 Inv-loop μ-loop
 cast-codes c = omega arith
@@ -56,12 +55,10 @@ loop2-less c = omega arith
 
 loop2-again : tie.Need-loop2-again Inv-loop2 μ-loop2 Inv-loop μ-loop
 loop2-again c =
-    let p = c .before .before .before .before .before .before .args .payload .now in
+    let l = c .before .loop2 in
     let g = c .before .before .before .before .loop .i in
-    let small : Small 8 p = λ k. c .before .before .before .before .before .shared-slice-known .given k .fits in
-    let e : 8 * g + (c .before .loop2 .j + 1) ≡ 8 * g + c .before .loop2 .j + 1 = omega arith in
-    let left = c .before .loop2 .inv .2 in
-    (omega arith, c .before .loop2 .inv .1, left-more p g left, rw e (filled-more _ _ (c .before .loop2 .inv .3) (omega arith) (left-code p g small (omega arith) left)))
+    let e : 8 * g + (l .j + 1) ≡ 8 * g + l .j + 1 = omega arith in
+    (omega arith, l .inv .1, rw e (regrouped-write (l .inv .2) (omega arith) (omega arith) refl))
 
 add-i : tie.Need-add-i Inv-loop2 μ-loop2 Inv-loop μ-loop
 add-i c = omega arith
@@ -71,11 +68,12 @@ loop-less c = omega arith
 
 loop-again : tie.Need-loop-again Inv-loop2 μ-loop2 Inv-loop μ-loop
 loop-again c =
-    let e : 8 * c .before .before .before .before .loop .i + c .before .loop2 .j ≡ 8 * (c .before .before .before .before .loop .i + 1) = omega arith in
-    (omega arith, c .before .before .before .before .loop .inv .1, rw e at (c .before .loop2 .inv .3))
+    let g = c .before .before .before .before .loop in
+    let j : c .before .loop2 .j ≡ 8 = omega arith in
+    (g .inv .0, rw (mul-add 3, mul-add 8) (regrouped-even (rw j at (c .before .loop2 .inv .2))))
 
 returns : tie.Need-returns Inv-loop2 μ-loop2 Inv-loop μ-loop
-returns c = unpacked-all 3 _ (c .before .loop .inv .2) (omega arith)
+returns c = regrouped-all (c .before .loop .inv .1) (omega arith)
 
 pub unpack-threes-spec : {M : Type 1} → statement M
 unpack-threes-spec =
