@@ -29,7 +29,7 @@ unfolding raised
 raise-is (pos n) h = refl
 raise-is (negsuc n) h = rw (le-ltb 32768 (suc n) (omega arith)) (ap pos (omega arith))
 
-pub lower-is : (u : ℕ) → u ≤ 65535 → (raised (subℕ u 32768) ≡ u) × (mag (subℕ u 32768) ≤ 32767)
+pub lower-is : (u : ℕ) → u ≤ 65535 → (raised (pos u -ℤ pos 32768) ≡ u) × (mag (pos u -ℤ pos 32768) ≤ 32767)
 unfolding raised
 lower-is u h =
     cond-ind (ltb u 32768) (negsuc (32768 - suc u)) (pos (u - 32768)) (λ z. (raised z ≡ u) × (mag z ≤ 32767))

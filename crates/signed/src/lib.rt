@@ -117,7 +117,7 @@ pub fn raise(x: i32) -> u32
 // Internal: the number of 16 bits that is raised to u.
 pub fn lower(u: u32) -> i32
     requires { ⌜ u ≤ 65535 ⌝ }
-    ensures { λ r. ⌜ (raised r ≡ u) × (mag r ≤ 32767) ⌝ }
+    ensures { λ r. ⌜ r ≡ pos u -ℤ pos 32768 ⌝ }
 {
     u as i32 - 32768
 }

@@ -2,6 +2,7 @@
 use native.Mathlib.Omega.{arith}
 use borrow.Author.Needs.{needs}
 use Rattle.signed.proofs.Laws.{back32, read16}
+use Rattle.signed.proofs.Raised.{lower-is}
 use Rattle.advance.proofs.Cascade.{rest-is, h-stepped}
 use Rattle.advance.proofs.h_next.Statement.{statement}
 use Rattle.advance.proofs.h_next.Tie as tie
@@ -69,8 +70,8 @@ returns c =
     (rest-is _ _ _ (r2 .rest2 .ensures .1) (r2 .rest2 .ensures .2))
     (rest-is _ _ _ (r3 .rest3 .ensures .1) (r3 .rest3 .ensures .2))
     _ _ _ _ (u .0) (u .1)
-    (rw (back32 (l .result) (l .ok)) (l .ensures .0))
-    (rw (back32 (l .result) (l .ok)) (l .ensures .1))
+    (rw (back32 (l .result) (l .ok), l .ensures) (lower-is _ (u .2) .0))
+    (rw (back32 (l .result) (l .ok), l .ensures) (lower-is _ (u .2) .1))
     (c .moved .ensures)
     (omega (arith, c .before .before .before .before .count-of .ensures .0, c .before .before .before .count-of2 .ensures .0))
 

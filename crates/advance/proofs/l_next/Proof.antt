@@ -5,6 +5,7 @@ use native.Mathlib.Omega.{arith}
 use lib.Dec.{ltb}
 use borrow.Author.Needs.{needs}
 use Rattle.signed.proofs.Laws.{back32, read16}
+use Rattle.signed.proofs.Raised.{lower-is}
 use Rattle.format.specs.Step.{stepAt}
 use Rattle.adpcm.proofs.Bounds.{step-low}
 use Rattle.advance.proofs.Nearest.{Chosen, cut}
@@ -140,8 +141,8 @@ returns c =
     (known k)
     (c .before .before .l-landed .ensures)
     _ _
-    (rw (back32 (l .result) (l .ok)) (l .ensures .0))
-    (rw (back32 (l .result) (l .ok)) (l .ensures .1))
+    (rw (back32 (l .result) (l .ok), l .ensures) (lower-is _ (c .before .before .l-landed .ensures .small) .0))
+    (rw (back32 (l .result) (l .ok), l .ensures) (lower-is _ (c .before .before .l-landed .ensures .small) .1))
     (c .moved .ensures)
 
 pub l-next-spec : {M : Type 1} → statement M

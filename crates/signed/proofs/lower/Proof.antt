@@ -14,7 +14,7 @@ sub-result : tie.Need-sub-result
 sub-result c = rw (up32 (c .args .u) (omega arith)) (sfits32 (omega (arith, lower-is (c .args .u) (c .pre) .1)))
 
 returns : tie.Need-returns
-returns c = rw (toZ-ofZ (sub-result c), up32 (c .args .u) (omega arith)) (lower-is (c .args .u) (c .pre))
+returns c = rw (toZ-ofZ (sub-result c), up32 (c .args .u) (omega arith))
 
 pub lower-spec : {M : Type 1} → statement M
 lower-spec = tie.close (tie.spec cast-result sub-result returns)
