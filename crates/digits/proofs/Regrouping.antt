@@ -37,6 +37,7 @@ regrouped-none a b ds e = record {
 }
 
 module _ {a b n : ℕ} {ds out : List ℕ} {acc have i j : ℕ} (r : Regrouped a b ds n out acc have i j) where
+  -- what is held fits
   pub regrouped-lt : acc < 2 ^ have
   regrouped-lt = rw (r .held) (bits-lt (number a ds) (b * j) have)
 
@@ -56,22 +57,17 @@ module _ {a b n : ℕ} {ds out : List ℕ} {acc have i j : ℕ} (r : Regrouped a
   pub regrouped-digit : Small a ds → {x : ℕ} → x ≡ acc + getD ds i 0 * 2 ^ have → Regrouped a b ds n out x (have + a) (i + 1) j
   regrouped-digit small {x} e = rw mul-one at (regrouped-read small 1 {x = x} (rw (number-one a ds small i) e))
 
-  -- a digit is written
-  pub regrouped-write : {rest x : ℕ} → have ≡ rest + b → j < n → x ≡ acc % 2 ^ b
-      → Regrouped a b ds n (set out j x) (acc / 2 ^ b) rest i (j + 1)
-  regrouped-write {rest} {x} e h p =
+  -- a digit is written, and the rest is held
+  pub regrouped-write : {rest x y : ℕ} → have ≡ rest + b → j < n → x ≡ acc % 2 ^ b → y ≡ acc / 2 ^ b
+      → Regrouped a b ds n (set out j x) y rest i (j + 1)
+  regrouped-write {rest} e h low high =
       let held : acc ≡ bitsAt (rest + b) (b * j) (number a ds) = r .held ∙ ap (λ (m : ℕ). bitsAt m (b * j) (number a ds)) e in
       let next : b * j + b ≡ b * (j + 1) = omega (arith, mul-add b j 1, mul-one b) in
       record {
-        written = filled-more _ _ (r .written) h (p ∙ ap (_% 2 ^ b) held ∙ bits-low (number a ds) (b * j) b rest);
-        held = ap (_/ 2 ^ b) held ∙ bits-high (number a ds) (b * j) b rest ∙ ap (λ (k : ℕ). bitsAt rest k (number a ds)) next;
+        written = filled-more _ _ (r .written) h (low ∙ ap (_% 2 ^ b) held ∙ bits-low (number a ds) (b * j) b rest);
+        held = high ∙ ap (_/ 2 ^ b) held ∙ bits-high (number a ds) (b * j) b rest ∙ ap (λ (k : ℕ). bitsAt rest k (number a ds)) next;
         place = omega (arith, r .place);
       }
 
   pub regrouped-all : n ≤ j → out ≡ digits b n (number a ds)
   regrouped-all h = filled-all _ _ (r .written) h ∙ sym (digits-tabulate b n (number a ds))
-
--- with no bit between, nothing is held
-pub regrouped-even : {a b n : ℕ} {ds out : List ℕ} {acc i j : ℕ} → Regrouped a b ds n out acc 0 i j → Regrouped a b ds n out 0 0 i j
-regrouped-even {a} {b} {ds = ds} {j = j} r =
-    record { written = r .written; held = sym (mod-one (number a ds / 2 ^ (b * j))); place = r .place }

@@ -108,7 +108,7 @@ loop-less c = omega arith
 loop-again : tie.Need-loop-again Inv-loop2 μ-loop2 Inv-loop μ-loop
 loop-again c =
     rw (c .before .pow22 .ensures .0, c .pow23 .ensures .0, ← (c .before .before .before .before .before .loop .inv .written .long))
-    (regrouped-write (c .before .before .before .loop2 .inv) (omega arith) (c .before .before .before .before .loop-test .taken) refl)
+    (regrouped-write (c .before .before .before .loop2 .inv) (omega arith) (c .before .before .before .before .loop-test .taken) refl refl)
 
 same-length : tie.Need-same-length Inv-loop2 μ-loop2 Inv-loop μ-loop
 same-length c = search needs

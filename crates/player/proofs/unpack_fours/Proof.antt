@@ -4,7 +4,7 @@ use native.Mathlib.Omega.{arith}
 use mathlib.Core.Path.{_≡_, refl}
 use lib.ListN.{length, getD}
 use Rattle.digits.proofs.Laws.{Small}
-use Rattle.digits.proofs.Regrouping.{Regrouped, regrouped-none, regrouped-digit, regrouped-write, regrouped-even, regrouped-all}
+use Rattle.digits.proofs.Regrouping.{Regrouped, regrouped-none, regrouped-digit, regrouped-write, regrouped-all}
 use Rattle.player.proofs.unpack_fours.Statement.{statement}
 use Rattle.player.proofs.unpack_fours.Tie as tie
 
@@ -46,10 +46,11 @@ loop-again c =
     let p = c .before .before .before .args .payload .now in
     let l = c .before .before .loop in
     let small : Small 8 p = λ k. c .shared-slice-known .given k .fits in
+    let fits = small (l .i) in
     let e : 2 * (l .i + 1) ≡ 2 * l .i + 1 + 1 = omega arith in
     let byte = regrouped-digit (l .inv .1) small {x = getD p (l .i) 0} (omega arith) in
-    let low = regrouped-write byte {rest = 4} refl (omega arith) refl in
-    (l .inv .0, rw e (regrouped-even (regrouped-write low refl (omega arith) (omega (arith, small (l .i))))))
+    let low = regrouped-write byte {rest = 4} refl (omega arith) in
+    (l .inv .0, rw e (regrouped-write (low (omega arith) refl) refl (omega arith) (omega arith) (omega arith)))
 
 returns : tie.Need-returns Inv-loop μ-loop
 returns c = regrouped-all (c .before .loop .inv .1) (omega arith)

@@ -4,7 +4,7 @@ use native.Mathlib.Nat.{mul-add}
 use native.Mathlib.Omega.{arith}
 use mathlib.Core.Path.{_≡_, refl}
 use lib.ListN.{length}
-use Rattle.digits.proofs.Regrouping.{Regrouped, regrouped-none, regrouped-read, regrouped-write, regrouped-even, regrouped-all}
+use Rattle.digits.proofs.Regrouping.{Regrouped, regrouped-none, regrouped-lt, regrouped-read, regrouped-write, regrouped-all}
 use Rattle.player.proofs.unpack_threes.Statement.{statement}
 use Rattle.player.proofs.unpack_threes.Tie as tie
 
@@ -58,7 +58,7 @@ loop2-again c =
     let l = c .before .loop2 in
     let g = c .before .before .before .before .loop .i in
     let e : 8 * g + (l .j + 1) ≡ 8 * g + l .j + 1 = omega arith in
-    (omega arith, l .inv .1, rw e (regrouped-write (l .inv .2) (omega arith) (omega arith) refl))
+    (omega arith, l .inv .1, rw e (regrouped-write (l .inv .2) (omega arith) (omega arith) (omega arith) (omega arith)))
 
 add-i : tie.Need-add-i Inv-loop2 μ-loop2 Inv-loop μ-loop
 add-i c = omega arith
@@ -68,9 +68,10 @@ loop-less c = omega arith
 
 loop-again : tie.Need-loop-again Inv-loop2 μ-loop2 Inv-loop μ-loop
 loop-again c =
-    let g = c .before .before .before .before .loop in
-    let j : c .before .loop2 .j ≡ 8 = omega arith in
-    (g .inv .0, rw (mul-add 3, mul-add 8) (regrouped-even (rw j at (c .before .loop2 .inv .2))))
+    let l = c .before .loop2 in
+    let j : l .j ≡ 8 = omega arith in
+    let w : l .w ≡ 0 = omega (arith, rw j at (regrouped-lt (l .inv .2))) in
+    (c .before .before .before .before .loop .inv .0, rw (mul-add 3, mul-add 8) (rw (j, w) at (l .inv .2)))
 
 returns : tie.Need-returns Inv-loop2 μ-loop2 Inv-loop μ-loop
 returns c = regrouped-all (c .before .loop .inv .1) (omega arith)
