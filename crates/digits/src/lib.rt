@@ -1,6 +1,6 @@
 // Numbers and their digits: codes packed into bytes and unpacked again, once for every width, the check of a payload's unused bits, and
 // little-endian numbers read from bytes and written to them. The definitions stand in specs/Digits, the laws that callers cite in
-// proofs/Laws.
+// proofs/Laws, and that of a loop from one width to another in proofs/Regrouping.
 ghost use mathlib.Core.Path.{_≡_};
 ghost use Prim.Native.Nat.{ℕ, _+_, _*_, _^_, _≤_, _<_};
 ghost use mathlib.Core.List.{_++_};

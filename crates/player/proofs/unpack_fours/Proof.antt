@@ -1,4 +1,5 @@
--- `player::unpack_fours` meets its contract: a turn reads a byte and writes two codes of 4 bits. Assumes nothing.
+-- `player::unpack_fours` meets its contract: it regroups 8 bits into 4. After i turns i bytes are read, 2 * i codes written, and nothing is
+-- held; a turn reads a byte and writes two codes. Assumes nothing.
 use Prim.Native.Nat.{_-_, _*_, _+_}
 use native.Mathlib.Omega.{arith}
 use mathlib.Core.Path.{_≡_, refl}

@@ -1,4 +1,5 @@
--- `player::unpack_threes` meets its contract: a turn reads three bytes and writes eight codes of 3 bits. Assumes nothing.
+-- `player::unpack_threes` meets its contract: it regroups 8 bits into 3. After i turns 3 * i bytes are read, 8 * i codes written, and nothing
+-- is held; a turn reads three bytes, as the number w, and writes eight codes, after j of which w holds the rest. Assumes nothing.
 use Prim.Native.Nat.{_-_, _*_, _+_, _≤_, _<_}
 use native.Mathlib.Nat.{mul-add}
 use native.Mathlib.Omega.{arith}
