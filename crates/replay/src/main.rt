@@ -187,37 +187,61 @@ fn state_at(q: &[u8], k: usize) -> State {
     }
 }
 
-// The answer to a fragment's question, decoded into a buffer.
+// A result of the fragment decoder: 1, the state after it, and the samples.
+fn put_played(out: &mut [u8], state: State, samples: &[i16]) -> usize {
+    let at = put(out, 0, 1);
+    let end = put_state(out, at, state);
+    put_samples(out, end, samples)
+}
+
+// The answer to a fragment's question, decoded to `pcm` from the state by value.
 fn play(q: &[u8], pcm: &mut [i16], out: &mut [u8]) -> usize {
     let variant = Variant::from_byte(byte_at(q, 2));
-    let count = byte_at(q, 3) as usize;
-    if pcm.len() < count {
-        return 0;
-    }
     let state = state_at(q, 4);
-    let r = fragment::decode_one(
-        byte_at(q, 1),
-        variant,
-        state,
-        tail(q, 21),
-        &mut pcm[..count],
-    );
+    let r = fragment::decode_one(byte_at(q, 1), variant, state, tail(q, 21), pcm);
     let answer = r.answer;
     let next = r.state;
     match answer {
-        FragmentDecoded::Filled(n) => {
-            let at = put(out, 0, 1);
-            let end = put_state(out, at, next);
-            put_samples(out, end, front_samples(pcm, n))
-        }
+        FragmentDecoded::Filled(n) => put_played(out, next, front_samples(pcm, n)),
         FragmentDecoded::Refused(e) => put_refused(out, e),
     }
 }
 
-// Kind 7: version, variant, count, state, a fragment. A result: 1, the state after it, and the samples.
+// The same with the state lent. Of its refusals 7 returns a number, and 14 and 15 none.
+fn play_lent(q: &[u8], pcm: &mut [i16], out: &mut [u8]) -> usize {
+    let state = state_at(q, 4);
+    let r = postlapse::decode_through_lent(byte_at(q, 1), byte_at(q, 2), state, tail(q, 21), pcm);
+    let answer = r.answer;
+    let next = r.state;
+    if answer.refusal == 0 {
+        return put_played(out, next, front_samples(pcm, answer.first));
+    }
+    let a = put(out, 0, 0);
+    let b = put(out, a, (answer.refusal % 256) as u8);
+    if answer.refusal == 7 {
+        let c = put(out, b, 1);
+        return put_eight(out, c, answer.first);
+    }
+    put(out, b, 0)
+}
+
+// Kind 7: version, variant, count, state, a fragment. A result: 1, the state after it, and the samples. It is asked by value and with
+// the state lent; where the two answers differ, it has none.
 fn ask_fragment(q: &[u8], out: &mut [u8]) -> usize {
+    let count = byte_at(q, 3) as usize;
+    if 64 < count {
+        return 0;
+    }
     let mut pcm = [0i16; 64];
-    play(q, &mut pcm, out)
+    let n = play(q, &mut pcm[..count], out);
+    let mut lent_pcm = [0i16; 64];
+    let mut lent = [0u8; 160];
+    let m = play_lent(q, &mut lent_pcm[..count], &mut lent);
+    if check::same(front(out, n), front(&lent, m)) {
+        n
+    } else {
+        0
+    }
 }
 
 // Kind 8: channels, rate, samples. A result: 1, and the file.
