@@ -10,6 +10,7 @@ use format::FragmentDecoded;
 use format::Inspected;
 use format::State;
 use format::Variant;
+use format::VariantRead;
 use libc::STDOUT_FILENO;
 use wav_format::WaveError;
 use wav_format::WaveFilled;
@@ -116,9 +117,8 @@ fn load(s: &[u8], out: &mut [i16]) -> usize {
     }
 }
 
-// Kind 1: variant, gain, channels, rate, samples. A result: 1, and the stream.
-fn ask_encode(q: &[u8], out: &mut [u8]) -> usize {
-    let variant = Variant::from_byte(byte_at(q, 1));
+// The answer to an encoder's question, at its variant.
+fn encode(q: &[u8], variant: Variant, out: &mut [u8]) -> usize {
     let mut pcm = [0i16; 1024];
     let n = load(tail(q, 8), &mut pcm);
     let samples = front_samples(&pcm, n);
@@ -136,6 +136,14 @@ fn ask_encode(q: &[u8], out: &mut [u8]) -> usize {
             put_bytes(out, at, front(&stream, w.length))
         }
         Encoded::Refused(e) => put_refused(out, e),
+    }
+}
+
+// Kind 1: variant, gain, channels, rate, samples. A result: 1, and the stream.
+fn ask_encode(q: &[u8], out: &mut [u8]) -> usize {
+    match Variant::try_from(byte_at(q, 1)) {
+        VariantRead::Known(variant) => encode(q, variant, out),
+        VariantRead::Refused(e) => put_refused(out, e),
     }
 }
 
@@ -194,9 +202,8 @@ fn put_played(out: &mut [u8], state: State, samples: &[i16]) -> usize {
     put_samples(out, end, samples)
 }
 
-// The answer to a fragment's question, decoded to `pcm` from the state by value.
-fn play(q: &[u8], pcm: &mut [i16], out: &mut [u8]) -> usize {
-    let variant = Variant::from_byte(byte_at(q, 2));
+// The answer to a fragment's question at its variant, decoded to `pcm` from the state by value.
+fn play_by_value(q: &[u8], variant: Variant, pcm: &mut [i16], out: &mut [u8]) -> usize {
     let state = state_at(q, 4);
     let r = fragment::decode_one(byte_at(q, 1), variant, state, tail(q, 21), pcm);
     let answer = r.answer;
@@ -204,6 +211,13 @@ fn play(q: &[u8], pcm: &mut [i16], out: &mut [u8]) -> usize {
     match answer {
         FragmentDecoded::Filled(n) => put_played(out, next, front_samples(pcm, n)),
         FragmentDecoded::Refused(e) => put_refused(out, e),
+    }
+}
+
+fn play(q: &[u8], pcm: &mut [i16], out: &mut [u8]) -> usize {
+    match Variant::try_from(byte_at(q, 2)) {
+        VariantRead::Known(variant) => play_by_value(q, variant, pcm, out),
+        VariantRead::Refused(e) => put_refused(out, e),
     }
 }
 
@@ -284,6 +298,16 @@ fn ask_wave(q: &[u8], out: &mut [u8]) -> usize {
     }
 }
 
+// Kinds 5 and 6: what a program reads. What it prints.
+fn ask_program(q: &[u8], kind: u8, out: &mut [u8; commands::ROOM]) -> usize {
+    let mut input = [0u8; commands::READ];
+    let count = put_bytes(&mut input, 0, tail(q, 1));
+    if kind == 5 {
+        return commands::convert(&input, count, out);
+    }
+    commands::report(&input, count, out)
+}
+
 fn ask(q: &[u8], out: &mut [u8; commands::ROOM]) -> usize {
     let kind = byte_at(q, 0);
     if kind == 1 {
@@ -304,10 +328,7 @@ fn ask(q: &[u8], out: &mut [u8; commands::ROOM]) -> usize {
     if kind == 8 {
         return ask_write(q, out);
     }
-    if kind == 5 {
-        return commands::convert(tail(q, 1), out);
-    }
-    commands::report(tail(q, 1), out)
+    ask_program(q, kind, out)
 }
 
 // Whether the first n bytes of `mine` are the answer.
