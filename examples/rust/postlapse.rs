@@ -40,13 +40,15 @@ pub struct FragmentAnswer {
     pub index: usize,
 }
 
+#[derive(Clone, Copy)]
 #[repr(C)]
 pub struct State {
     pub predictor: i32,
     pub index: usize,
 }
 
-mod raw {
+/// The functions as they are in the archive.
+pub mod raw {
     use super::{Answer, FragmentAnswer, HeaderAnswer, State, WaveAnswer};
 
     #[rustfmt::skip]

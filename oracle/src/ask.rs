@@ -5,13 +5,14 @@ use crate::answer::{self, Answer, Refusal};
 use crate::convert;
 use crate::input::{Input, fragment_size, frame_samples, hex, name, words};
 use crate::lists::Random;
+use crate::memory::{Placement, Places, lent};
 use crate::postlapse as ours;
 use crate::reference::sqv4::{self, State, Variant};
 use crate::reference::wav;
 use crate::tally::Tally;
 
 /// The numbers of an answer in the order of its struct, the refusal first, and zeros behind them.
-type Numbers = [i64; 8];
+pub type Numbers = [i64; 8];
 
 fn numbers(values: &[usize]) -> Numbers {
     let mut all = [0; 8];
@@ -23,17 +24,24 @@ fn refused(refusal: &Refusal) -> Numbers {
     numbers(&[&[refusal.number as usize], &refusal.values[..]].concat())
 }
 
-fn answered(answer: ours::Answer) -> Numbers {
+pub fn answered(answer: ours::Answer) -> Numbers {
     numbers(&[answer.refusal, answer.first, answer.second])
 }
 
-fn header_answered(answer: ours::HeaderAnswer) -> Numbers {
+pub fn header_answered(answer: ours::HeaderAnswer) -> Numbers {
     let ours::HeaderAnswer { refusal, first, second, version, variant, channels, rate, samples } = answer;
     let bytes = [version, variant, channels].map(usize::from);
     numbers(&[refusal, first, second, bytes[0], bytes[1], bytes[2], rate as usize, samples as usize])
 }
 
-fn wave_answered(answer: ours::WaveAnswer) -> Numbers {
+pub fn fragment_answered(answer: ours::FragmentAnswer) -> Numbers {
+    let ours::FragmentAnswer { refusal, first, predictor, index } = answer;
+    let mut all = numbers(&[refusal, first]);
+    all[4..6].copy_from_slice(&[predictor as i64, index as i64]);
+    all
+}
+
+pub fn wave_answered(answer: ours::WaveAnswer) -> Numbers {
     let ours::WaveAnswer { refusal, channels, rate, start, size } = answer;
     numbers(&[refusal, channels as usize, rate as usize, start, size])
 }
@@ -57,21 +65,36 @@ impl Place for i16 {
     }
 }
 
-/// So many places before and after each output, which no call may touch.
+/// So many places before and after each output, which no call may touch. None stand where a guard page is.
 const AROUND: usize = 9;
 
-/// Calls with an output of `room` places, and gives the answer and all places after the call.
-fn lend<T: Place, A>(room: usize, call: impl FnOnce(&mut [T]) -> A) -> (A, Vec<T>) {
-    let mut places: Vec<T> = (0..room + 2 * AROUND).map(T::before).collect();
-    let answer = call(&mut places[AROUND..AROUND + room]);
-    (answer, places)
+/// An output of a call and the places around it.
+struct Output<T> {
+    places: Places<T>,
+    front: usize,
+    room: usize,
 }
 
-/// The values are at the front of the output, and every other place is as it was.
-fn hold<T: Place>(places: &[T], values: &[T]) -> bool {
-    let end = AROUND + values.len();
-    let untouched = |at: usize| places[at] == T::before(at);
-    places[AROUND..end] == *values && (0..AROUND).all(untouched) && (end..places.len()).all(untouched)
+impl<T: Place> Output<T> {
+    fn new(placement: Placement, room: usize) -> Self {
+        let front = if placement == Placement::GuardBefore { 0 } else { AROUND };
+        let behind = if placement == Placement::GuardBehind { 0 } else { AROUND };
+        let places = Places::of(placement, (0..front + room + behind).map(T::before).collect());
+        Output { places, front, room }
+    }
+
+    fn out(&mut self) -> &mut [T] {
+        &mut self.places[self.front..self.front + self.room]
+    }
+
+    /// The values are at the front of the output, and every other place is as it was.
+    fn holds(&self, values: &[T]) -> bool {
+        let end = self.front + values.len();
+        let untouched = |at: usize| self.places[at] == T::before(at);
+        self.places[self.front..end] == *values
+            && (0..self.front).all(untouched)
+            && (end..self.places.len()).all(untouched)
+    }
 }
 
 /// A result needs its length of places; else the scope paper's 13.
@@ -94,18 +117,28 @@ fn rooms<T>(random: &mut Random, result: &Result<Vec<T>, Refusal>) -> Vec<usize>
     }
 }
 
-/// Holds an answer and an output against what they must be, and says whether they are that.
+/// Makes a call with an output of so many places, holds its answer and the output against what they must be, and says whether
+/// they are that. A refused call may not write.
 fn judge<T: Place>(
     tally: &mut Tally,
     call: &'static str,
     (expected, values): (Numbers, &[T]),
-    (answer, places): (Numbers, &[T]),
-    line: impl FnOnce() -> String,
+    room: usize,
+    ask: impl FnOnce(&mut [T]) -> Numbers,
+    line: impl Fn() -> String,
 ) -> bool {
-    let held = hold(places, values);
+    let refusal = expected[0] as usize;
+    if !tally.begin(call, refusal, &line) {
+        return false;
+    }
+    let mut output = Output::new(tally.placement(), room);
+    if refusal != 0 {
+        output.places.forbid_writing();
+    }
+    let answer = ask(output.out());
+    let held = output.holds(values);
     let same = held && answer == expected;
-    tally.count(call, expected[0] as usize, same, || {
-        let room = places.len() - 2 * AROUND;
+    tally.count(call, refusal, same, || {
         let output = if held { "as expected" } else { "NOT as expected" };
         (format!("{call}, room {room}: answered {answer:?}, expected {expected:?}; output {output}"), line())
     });
@@ -121,12 +154,11 @@ fn ask_filled<T: Place>(
     line: impl Fn() -> String,
 ) {
     for room in rooms(random, result) {
-        let (answer, places) = lend(room, &ask);
         let expected = match in_room(result, room) {
             Ok(values) => (numbers(&[0, values.len()]), values),
             Err(refusal) => (refused(&refusal), &[][..]),
         };
-        judge(tally, call, expected, (answered(answer), &places), &line);
+        judge(tally, call, expected, room, |out| answered(ask(out)), &line);
     }
 }
 
@@ -135,10 +167,28 @@ fn ask_plain(
     tally: &mut Tally,
     call: &'static str,
     expected: Numbers,
-    answer: Numbers,
-    line: impl FnOnce() -> String,
+    ask: impl FnOnce() -> Numbers,
+    line: impl Fn() -> String,
 ) {
-    judge::<u8>(tally, call, (expected, &[]), (answer, &lend(0, |_| ()).1), line);
+    judge::<u8>(tally, call, (expected, &[]), 0, |_| ask(), line);
+}
+
+/// Asks the calls that an input of a list is for.
+pub fn input(tally: &mut Tally, random: &mut Random, input: &Input) {
+    match input {
+        Input::Encode { variant, gain, channels, rate, samples } => {
+            let (variant, gain, channels, rate) = (*variant as u8, *gain, *channels, *rate);
+            encode(tally, random, &Sound { variant, gain, channels, rate, samples });
+        }
+        Input::Inspect(bytes) | Input::Decode(bytes) => stream(tally, random, bytes),
+        Input::Fragment { version, variant, state, count, bytes } => {
+            let fragment = Fragment { version: *version, variant: *variant as u8, bytes, count: *count };
+            Channels::new([*state; 2]).play(tally, 0, fragment);
+        }
+        Input::Wav(bytes) => wave(tally, random, bytes),
+        Input::Write { channels, rate, samples } => write(tally, random, *channels, *rate, samples),
+        Input::Step { .. } | Input::Volume(_) | Input::Converter(_) | Input::Inspector(_) => {}
+    }
 }
 
 // ---- streams
@@ -157,7 +207,8 @@ pub fn encode(tally: &mut Tally, random: &mut Random, sound: &Sound) -> Option<V
     let result = Variant::try_from(variant)
         .and_then(|variant| sqv4::encode_interleaved(samples, channels, rate, variant, gain))
         .map_err(Refusal::from);
-    let ask = |out: &mut [u8]| ours::encode(samples, channels, rate, variant, gain, out);
+    let pcm = lent(tally.placement(), samples);
+    let ask = |out: &mut [u8]| ours::encode(&pcm, channels, rate, variant, gain, out);
     let line = || format!("encode {} {gain} {channels} {rate}{}", variant_word(variant), words(samples));
     ask_filled((tally, random), "encode", &result, ask, line);
     result.ok()
@@ -176,17 +227,18 @@ pub fn stream(tally: &mut Tally, random: &mut Random, bytes: &[u8]) {
         numbers(&[0, 0, 0, bytes[0], bytes[1], bytes[2], sample_rate as usize, samples_per_channel])
     });
     let inspected = header.clone().unwrap_or_else(|refusal| refused(&refusal));
-    let answer = header_answered(ours::inspect(bytes));
-    ask_plain(tally, "inspect", inspected, answer, || format!("inspect {}", hex(bytes)));
+    let file = lent(tally.placement(), bytes);
+    let ask = || header_answered(ours::inspect(&file));
+    ask_plain(tally, "inspect", inspected, ask, || format!("inspect {}", hex(bytes)));
 
     let samples = sqv4::decode(bytes).map_err(Refusal::from).map(|audio| audio.samples);
     for room in rooms(random, &samples) {
-        let (answer, places) = lend(room, |out| ours::decode(bytes, out));
         let expected = match in_room(&samples, room) {
             Ok(values) => (inspected, values),
             Err(refusal) => (refused(&refusal), &[][..]),
         };
-        judge(tally, "decode", expected, (header_answered(answer), &places), || format!("decode {}", hex(bytes)));
+        let ask = |out: &mut [i16]| header_answered(ours::decode(&file, out));
+        judge(tally, "decode", expected, room, ask, || format!("decode {}", hex(bytes)));
     }
 }
 
@@ -257,23 +309,34 @@ impl Channels {
             let State { predictor, index } = before;
             format!("fragment {version} {} {predictor} {index} {count} {}", variant_word(variant), hex(bytes))
         };
-
-        let state = lendable(self.carried[channel]);
-        let (answer, places) = lend(count, |out| ours::decode_fragment(version, variant, state, bytes, out));
-        self.carried[channel] = State { predictor: answer.predictor, index: answer.index };
         let both = |mut call: Numbers, states| {
             call[4..].copy_from_slice(&state_numbers(states));
             call
         };
         let due = both(expected, self.reference);
-        let said = both(numbers(&[answer.refusal, answer.first]), self.carried);
-        let same = judge(tally, "fragment", (due, values), (said, &places), &line);
+        let bytes = lent(tally.placement(), bytes);
 
-        let state = &mut self.lent[channel];
-        let (answer, places) = lend(count, |out| ours::decode_fragment_lent(version, variant, state, bytes, out));
-        let lent = self.lent.each_ref().map(|state| State { predictor: state.predictor, index: state.index });
-        let said = both(answered(answer), lent);
-        if !(judge(tally, "fragment lent", (due, values), (said, &places), &line) && same) {
+        let carried = &mut self.carried;
+        let by_value = |out: &mut [i16]| {
+            let state = lendable(carried[channel]);
+            let answer = ours::decode_fragment(version, variant, state, &bytes, out);
+            carried[channel] = State { predictor: answer.predictor, index: answer.index };
+            both(numbers(&[answer.refusal, answer.first]), *carried)
+        };
+        let same = judge(tally, "fragment", (due, values), count, by_value, &line);
+
+        let lent = &mut self.lent;
+        let mut state = Places::of(tally.placement(), vec![lent[channel]]);
+        if result.is_err() || version == 3 {
+            // These change no state, so that they need not be allowed to.
+            state.forbid_writing();
+        }
+        let in_place = |out: &mut [i16]| {
+            let answer = ours::decode_fragment_lent(version, variant, &mut state[0], &bytes, out);
+            lent[channel] = state[0];
+            both(answered(answer), lent.map(|state| State { predictor: state.predictor, index: state.index }))
+        };
+        if !(judge(tally, "fragment lent", (due, values), count, in_place, &line) && same) {
             // The calls that follow are not to blame.
             *self = Channels::new(self.reference);
         }
@@ -320,7 +383,9 @@ fn strict_refusal(file: &[u8], layout: &Layout) -> usize {
 /// Asks both readers, and loads the samples of a file that is accepted.
 pub fn wave(tally: &mut Tally, random: &mut Random, file: &[u8]) {
     let line = || format!("wav {}", hex(file));
-    let (plain, strict) = (ours::read_wave(file), ours::read_strict_wave(file));
+    let lent = lent(tally.placement(), file);
+    let plain = || wave_answered(ours::read_wave(&lent));
+    let strict = || wave_answered(ours::read_strict_wave(&lent));
     match wav::read_pcm16_wave(file).map_err(Refusal::from) {
         Ok(wave) => {
             let found = layout(file);
@@ -329,27 +394,29 @@ pub fn wave(tally: &mut Tally, random: &mut Random, file: &[u8]) {
                 0 => due,
                 number => numbers(&[number]),
             };
-            ask_plain(tally, "read", due, wave_answered(plain), line);
-            ask_plain(tally, "read strict", strictly, wave_answered(strict), line);
+            ask_plain(tally, "read", due, plain, line);
+            ask_plain(tally, "read strict", strictly, strict, line);
             load(tally, random, &file[found.data..found.data + found.data_size], wave.samples, line);
         }
         Err(refusal) => {
             let due = refused(&refusal);
-            ask_plain(tally, "read", due, wave_answered(plain), line);
-            ask_plain(tally, "read strict", due, wave_answered(strict), line);
+            ask_plain(tally, "read", due, plain, line);
+            ask_plain(tally, "read strict", due, strict, line);
         }
     }
 }
 
 /// Asks for these bytes as these samples.
 pub fn load(tally: &mut Tally, random: &mut Random, bytes: &[u8], samples: Vec<i16>, line: impl Fn() -> String) {
-    ask_filled((tally, random), "load samples", &Ok(samples), |out| ours::load_samples(bytes, out), line);
+    let bytes = lent(tally.placement(), bytes);
+    ask_filled((tally, random), "load samples", &Ok(samples), |out| ours::load_samples(&bytes, out), line);
 }
 
 /// Asks the writer.
 pub fn write(tally: &mut Tally, random: &mut Random, channels: u8, rate: u32, samples: &[i16]) {
     let result = convert::written(channels, rate, samples);
-    let ask = |out: &mut [u8]| ours::write_wave(channels, rate, samples, out);
+    let lent = lent(tally.placement(), samples);
+    let ask = |out: &mut [u8]| ours::write_wave(channels, rate, &lent, out);
     ask_filled((tally, random), "write", &result, ask, || format!("write {channels} {rate}{}", words(samples)));
 }
 
@@ -359,7 +426,9 @@ pub fn whole_converter(tally: &mut Tally, file: &[u8], variant: Variant, gain: u
     let refusal = if expected.is_some() { 0 } else { ours::read_wave(file).refusal };
     let ours = converted(file, variant, gain);
     for (call, part) in [("stream", 0), ("preview", 1)] {
-        let pick = |files: &Option<(Vec<u8>, Vec<u8>)>| files.clone().map(|(stream, preview)| [stream, preview][part].clone());
+        let pick = |files: &Option<(Vec<u8>, Vec<u8>)>| {
+            files.clone().map(|(stream, preview)| [stream, preview][part].clone())
+        };
         tally.count(call, refusal, pick(&ours) == pick(&expected), || {
             (format!("{call} of {} {gain}", name(variant)), format!("wav {}", hex(file)))
         });

@@ -6,10 +6,13 @@ mod answer;
 mod ask;
 #[allow(dead_code)]
 mod convert;
+mod guard;
 #[allow(dead_code)]
 mod input;
 #[allow(dead_code)]
 mod lists;
+mod memory;
+mod pointers;
 #[allow(dead_code)]
 #[path = "../../examples/rust/postlapse.rs"]
 mod postlapse;
@@ -84,7 +87,102 @@ fn compare(n: u64, seed: u64) -> Tally {
         tally.start(group);
         ask(&mut tally, &mut random);
     }
+    guarded_calls(&mut tally, &mut random, n as usize);
     tally
+}
+
+/// The refusals of each call, all of which are asked in guarded memory.
+const REFUSALS: [(&str, &[usize]); 9] = [
+    ("encode", &[8, 1, 2, 3, 13]),
+    ("inspect", &[5, 6, 7, 8, 1, 9, 2, 10, 11, 12]),
+    ("decode", &[5, 6, 7, 8, 1, 9, 2, 10, 11, 12, 13]),
+    ("fragment", &[8, 7, 14, 15]),
+    ("fragment lent", &[8, 7, 14, 15]),
+    ("read", &[20, 21, 22, 23, 24, 25, 26, 27, 28, 29, 30, 31, 32, 33]),
+    ("read strict", &[20, 21, 22, 23, 24, 25, 26, 27, 28, 29, 30, 31, 32, 33, 40, 41, 42]),
+    ("load samples", &[13]),
+    ("write", &[34, 37, 13]),
+];
+
+/// In guarded memory: inputs for every refusal, and a share of the random ones.
+fn guarded_calls(tally: &mut Tally, random: &mut Random, n: usize) {
+    tally.start("guarded");
+    let listed = listed();
+    guard::guarded(tally, random, listed.len(), &|at, tally, random| listed[at](tally, random));
+    let groups: [(usize, fn(&mut Tally, &mut Random)); 8] = [
+        (20, sound),
+        (20, random_streams),
+        (20, damaged_streams),
+        (20, twice_damaged_streams),
+        (20, fragment_list),
+        (20, wave_file),
+        (20, sample_bytes),
+        (200, write),
+    ];
+    for (share, ask) in groups {
+        guard::guarded(tally, random, n.div_ceil(share), &|_, tally, random| ask(tally, random));
+    }
+    for (call, refusals) in REFUSALS {
+        refusals.iter().for_each(|&refusal| tally.require(call, refusal));
+    }
+    tally.start("odd pointers");
+    guard::apart(tally, random, n.div_ceil(20), &|_, tally, random| pointers::unaligned(tally, random));
+    tally.start("null pointers");
+    guard::apart(tally, random, 1, &|_, tally, random| pointers::nulls(tally, random));
+}
+
+type Listed = Box<dyn Fn(&mut Tally, &mut Random)>;
+
+/// The inputs of the lists that have refusals, and those of which a list has no form.
+fn listed() -> Vec<Listed> {
+    let names = ["edges", "headers", "fragments", "waves", "writes"];
+    let text: String = names.iter().filter_map(|name| lists::list(name)).collect();
+    let inputs = input::read(&text).expect("a list can be read");
+    let mut all: Vec<Listed> = Vec::new();
+    for (_, input) in inputs {
+        all.push(Box::new(move |tally, random| ask::input(tally, random, &input)));
+    }
+    for (variant, channels) in [(3, 1), (255, 2), (3, 0)] {
+        let sound = Sound { variant, gain: 255, channels, rate: RATE, samples: &[1, 2] };
+        all.push(Box::new(move |tally, random| drop(ask::encode(tally, random, &sound))));
+    }
+    all.extend(refused_fragments());
+    all
+}
+
+/// For each version and variant a call of each cause, and calls of two in their order.
+fn refused_fragments() -> Vec<Listed> {
+    let mut all: Vec<Listed> = Vec::new();
+    let mut add = |version, variant, size, count, predictor, index| {
+        let (bytes, state) = (vec![7; size], State { predictor, index });
+        all.push(Box::new(move |tally, _| {
+            Channels::new([state; 2]).play(tally, 0, Fragment { version, variant, bytes: &bytes, count })
+        }));
+    };
+    for version in 1..=3 {
+        for variant in 0..3 {
+            let (size, count) = (fragment_size(version, VARIANTS[variant as usize]), frame_samples(version));
+            for wrong in [0, 4, 255] {
+                add(wrong, variant, size, count, 0, 0);
+                add(wrong, variant, size + 1, count, 0, 0);
+            }
+            for wrong in [3, 255] {
+                add(version, wrong, size, count, 0, 0);
+                add(0, wrong, size, count, 0, 0);
+            }
+            for wrong in [0, 1, size - 1, size + 1, 5000] {
+                add(version, variant, wrong, count, 0, 0);
+                add(version, variant, wrong, count, 0, 89);
+            }
+            for wrong in [count + 1, 5000] {
+                add(version, variant, size, wrong, 0, 0);
+            }
+            for (predictor, index) in [(-32769, 0), (32768, 88), (0, 89), (0, usize::MAX), (i32::MIN, 89)] {
+                add(version, variant, size, count, predictor, index);
+            }
+        }
+    }
+    all
 }
 
 /// Another row of numbers for each seed; the first ones are thrown away, since they resemble those of near seeds.
