@@ -19,6 +19,7 @@ mod postlapse;
 #[allow(dead_code)]
 mod print;
 mod tally;
+mod threads;
 
 /// The reference, unchanged, as in main.rs.
 #[allow(dead_code)]
@@ -88,6 +89,8 @@ fn compare(n: u64, seed: u64) -> Tally {
         ask(&mut tally, &mut random);
     }
     guarded_calls(&mut tally, &mut random, n as usize);
+    tally.start("threads at once");
+    threads::at_once(&mut tally, &mut random, n.div_ceil(100) as usize);
     tally
 }
 
@@ -457,7 +460,7 @@ fn volumes(tally: &mut Tally, _: &mut Random) {
 
 /// A fmt chunk, a data chunk and others in any order, each at times wrong, doubled or left out; then at times other sizes, damages
 /// and bytes after the end.
-fn wave_file(tally: &mut Tally, random: &mut Random) {
+fn wave_bytes(random: &mut Random) -> Vec<u8> {
     let mut chunks = vec![format_chunk(random), data_chunk(random)];
     for _ in 0..random.below(3) {
         let contents: Vec<u8> = (0..random.below(8)).map(|_| random.byte()).collect();
@@ -485,6 +488,11 @@ fn wave_file(tally: &mut Tally, random: &mut Random) {
     for _ in 0..[0, 0, 0, 1, 1, 2][random.below(6)] {
         damage_wave(random, &mut file);
     }
+    file
+}
+
+fn wave_file(tally: &mut Tally, random: &mut Random) {
+    let file = wave_bytes(random);
     ask::wave(tally, random, &file);
 }
 
