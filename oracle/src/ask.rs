@@ -201,6 +201,33 @@ pub struct Sound<'a> {
     pub samples: &'a [i16],
 }
 
+impl Sound<'_> {
+    fn line(&self) -> String {
+        let Sound { variant, gain, channels, rate, samples } = *self;
+        format!("encode {} {gain} {channels} {rate}{}", variant_word(variant), sample_words(samples))
+    }
+}
+
+/// Samples as words; of very many only the count, which has no form in a list.
+fn sample_words(samples: &[i16]) -> String {
+    if samples.len() > 1 << 20 { format!(" and {} samples", samples.len()) } else { words(samples) }
+}
+
+/// Asks the encoder without room for a sound that is too long to be encoded here: it must say the length needed.
+pub fn encode_length(tally: &mut Tally, sound: &Sound, needed: usize) {
+    let Sound { variant, gain, channels, rate, samples } = *sound;
+    let expected = (numbers(&[13, needed]), &[][..]);
+    let ask = |out: &mut [u8]| answered(ours::encode(samples, channels, rate, variant, gain, out));
+    judge(tally, "encode", expected, 0, ask, || sound.line());
+}
+
+/// The same of the writer.
+pub fn write_length(tally: &mut Tally, channels: u8, rate: u32, samples: &[i16], needed: usize) {
+    let expected = (numbers(&[13, needed]), &[][..]);
+    let ask = |out: &mut [u8]| answered(ours::write_wave(channels, rate, samples, out));
+    judge(tally, "write", expected, 0, ask, || format!("write {channels} {rate}{}", sample_words(samples)));
+}
+
 /// Asks the encoder, and gives the reference's stream.
 pub fn encode(tally: &mut Tally, random: &mut Random, sound: &Sound) -> Option<Vec<u8>> {
     let Sound { variant, gain, channels, rate, samples } = *sound;
@@ -209,7 +236,7 @@ pub fn encode(tally: &mut Tally, random: &mut Random, sound: &Sound) -> Option<V
         .map_err(Refusal::from);
     let pcm = lent(tally.placement(), samples);
     let ask = |out: &mut [u8]| ours::encode(&pcm, channels, rate, variant, gain, out);
-    let line = || format!("encode {} {gain} {channels} {rate}{}", variant_word(variant), words(samples));
+    let line = || sound.line();
     ask_filled((tally, random), "encode", &result, ask, line);
     result.ok()
 }
@@ -417,7 +444,7 @@ pub fn write(tally: &mut Tally, random: &mut Random, channels: u8, rate: u32, sa
     let result = convert::written(channels, rate, samples);
     let lent = lent(tally.placement(), samples);
     let ask = |out: &mut [u8]| ours::write_wave(channels, rate, &lent, out);
-    ask_filled((tally, random), "write", &result, ask, || format!("write {channels} {rate}{}", words(samples)));
+    ask_filled((tally, random), "write", &result, ask, || format!("write {channels} {rate}{}", sample_words(samples)));
 }
 
 /// Runs the reference's converter on a file, and holds the stream and the preview that it writes against ours.

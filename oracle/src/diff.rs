@@ -11,6 +11,7 @@ mod guard;
 mod input;
 #[allow(dead_code)]
 mod lists;
+mod longest;
 mod memory;
 mod pointers;
 #[allow(dead_code)]
@@ -31,22 +32,29 @@ mod reference {
 use ask::{Channels, Fragment, Sound};
 use input::{VARIANTS, fragment_size, frame_samples, prefix};
 use lists::{Fields, MONO, RATE, Random, SPOILS, STEREO};
+use memory::{Pages, Placement};
 use reference::sqv4::{self, State, Variant};
 use std::process::ExitCode;
 use tally::Tally;
 
 const DIFFERS: &str = "target/oracle/differs.txt";
 
+const USAGE: &str = "usage: oracle/diff [N] [SEED]
+       oracle/diff longest";
+
 fn main() -> ExitCode {
-    let arguments: Vec<u64> = std::env::args().skip(1).map_while(|word| word.parse().ok()).collect();
-    if arguments.len() + 1 < std::env::args().len() || arguments.len() > 2 {
-        eprintln!("usage: oracle/diff [N] [SEED]");
-        return ExitCode::from(2);
-    }
-    let (n, seed) = (*arguments.first().unwrap_or(&100_000), *arguments.get(1).unwrap_or(&1));
-    let _ = std::fs::remove_file(DIFFERS);
-    let tally = compare(n, seed);
+    let words: Vec<String> = std::env::args().skip(1).collect();
+    let numbers: Vec<u64> = words.iter().map_while(|word| word.parse().ok()).collect();
+    let tally = match numbers[..] {
+        _ if words == ["longest"] => longest(),
+        _ if numbers.len() < words.len() || words.len() > 2 => {
+            eprintln!("{USAGE}");
+            return ExitCode::from(2);
+        }
+        _ => compare(*numbers.first().unwrap_or(&100_000), *numbers.get(1).unwrap_or(&1)),
+    };
     print!("{}", tally.report());
+    let _ = std::fs::remove_file(DIFFERS);
     if tally.differ() > 0 {
         std::fs::write(DIFFERS, tally.differing()).expect("target/oracle can be written");
         println!("the smallest input of each kind that differs: {DIFFERS}");
@@ -55,10 +63,16 @@ fn main() -> ExitCode {
     if tally.differ() > 0 { ExitCode::FAILURE } else { ExitCode::SUCCESS }
 }
 
+fn longest() -> Tally {
+    let mut tally = Tally::new();
+    longest::compare(&mut tally, &mut seeded(1));
+    tally
+}
+
 /// All groups: `n` random inputs of each, and those that are the same at every run.
 fn compare(n: u64, seed: u64) -> Tally {
     let (mut random, mut tally) = (seeded(seed), Tally::new());
-    let groups: [(&str, fn(&mut Tally, &mut Random)); 8] = [
+    let groups: [Group; 8] = [
         ("sounds", sound),
         ("random streams", random_streams),
         ("encoded streams", encoded_streams),
@@ -77,16 +91,19 @@ fn compare(n: u64, seed: u64) -> Tally {
     tally.start("whole converter");
     (0..n.div_ceil(1000)).for_each(|_| whole_converter(&mut tally, &mut random));
 
-    let whole: [(&str, fn(&mut Tally, &mut Random)); 5] = [
+    let whole: [Group; 5] = [
         ("all header bytes", header_bytes),
         ("all steps", steps),
         ("all volumes", volumes),
         ("single samples", single_samples),
         ("all WAV cuts", wave_cuts),
     ];
-    for (group, ask) in whole {
+    for &(group, ask) in whole.iter().chain(bounds()) {
         tally.start(group);
         ask(&mut tally, &mut random);
+    }
+    if bounds().is_empty() {
+        eprintln!("the system has no addresses for 2^33 samples: 4, 35 and 36 are not compared");
     }
     guarded_calls(&mut tally, &mut random, n as usize);
     tally.start("threads at once");
@@ -96,7 +113,7 @@ fn compare(n: u64, seed: u64) -> Tally {
 
 /// The refusals of each call, all of which are asked in guarded memory.
 const REFUSALS: [(&str, &[usize]); 9] = [
-    ("encode", &[8, 1, 2, 3, 13]),
+    ("encode", &[8, 1, 2, 3, 4, 13]),
     ("inspect", &[5, 6, 7, 8, 1, 9, 2, 10, 11, 12]),
     ("decode", &[5, 6, 7, 8, 1, 9, 2, 10, 11, 12, 13]),
     ("fragment", &[8, 7, 14, 15]),
@@ -104,7 +121,7 @@ const REFUSALS: [(&str, &[usize]); 9] = [
     ("read", &[20, 21, 22, 23, 24, 25, 26, 27, 28, 29, 30, 31, 32, 33]),
     ("read strict", &[20, 21, 22, 23, 24, 25, 26, 27, 28, 29, 30, 31, 32, 33, 40, 41, 42]),
     ("load samples", &[13]),
-    ("write", &[34, 37, 13]),
+    ("write", &[34, 35, 36, 37, 13]),
 ];
 
 /// In guarded memory: inputs for every refusal, and a share of the random ones.
@@ -125,8 +142,12 @@ fn guarded_calls(tally: &mut Tally, random: &mut Random, n: usize) {
     for (share, ask) in groups {
         guard::guarded(tally, random, n.div_ceil(share), &|_, tally, random| ask(tally, random));
     }
+    for (_, ask) in bounds() {
+        guard::guarded(tally, random, 1, &|_, tally, random| ask(tally, random));
+    }
     for (call, refusals) in REFUSALS {
-        refusals.iter().for_each(|&refusal| tally.require(call, refusal));
+        let due = refusals.iter().filter(|refusal| !bounds().is_empty() || ![4, 35, 36].contains(*refusal));
+        due.for_each(|&refusal| tally.require(call, refusal));
     }
     tally.start("odd pointers");
     guard::apart(tally, random, n.div_ceil(20), &|_, tally, random| pointers::unaligned(tally, random));
@@ -332,6 +353,74 @@ fn single_samples(tally: &mut Tally, random: &mut Random) {
             let stream = ask::encode(tally, random, &sound).expect("a sound is encoded");
             ask::stream(tally, random, &stream);
         }
+    }
+}
+
+// ---- counts at their bounds
+
+/// So many samples and more are refused: with 4 in each channel, with 35 and with 36 in a WAV file.
+const TOO_MANY: usize = 1 << 32;
+const TOO_MANY_TO_WRITE: usize = 1 << 31;
+const TOO_MANY_WITH_HEADER: usize = (1 << 31) - 18;
+
+type Group = (&'static str, fn(&mut Tally, &mut Random));
+
+/// None where the system has no addresses for so many samples.
+fn bounds() -> &'static [Group] {
+    let enough = Pages::<i16>::zeros(Placement::Heap, 2 * TOO_MANY + 1).is_some();
+    if enough { &[("most samples", most_samples), ("most to write", most_to_write)] } else { &[] }
+}
+
+/// Samples that take no memory, as long as nobody reads them. A refusal for their count must come before that.
+fn zeros(tally: &Tally, count: usize) -> Pages<i16> {
+    Pages::zeros(tally.placement(), count).expect("there are addresses for so many samples")
+}
+
+/// 4, and the refusals before it. One sample less is accepted: there the length needed is asked, without room.
+fn most_samples(tally: &mut Tally, random: &mut Random) {
+    for variant in 0..3 {
+        let mut ask = |channels: u8, rate, variant, count| {
+            let samples = &zeros(tally, count)[..];
+            ask::encode(tally, random, &Sound { variant, gain: 255, channels, rate, samples });
+        };
+        ask(1, RATE, variant, TOO_MANY);
+        ask(1, RATE, variant, TOO_MANY + 1);
+        ask(2, RATE, variant, 2 * TOO_MANY);
+        ask(2, RATE, variant, 2 * TOO_MANY - 1);
+        ask(2, RATE, variant, 2 * TOO_MANY + 1);
+        ask(2, 0, variant, 2 * TOO_MANY);
+        ask(3, RATE, variant, TOO_MANY);
+        ask(1, RATE, variant + 3, TOO_MANY);
+        for channels in 1..=2 {
+            let samples = &zeros(tally, channels * (TOO_MANY - 1))[..];
+            let sound = Sound { variant, gain: 255, channels: channels as u8, rate: RATE, samples };
+            let fragments = (TOO_MANY - 1).div_ceil(63) * channels;
+            ask::encode_length(tally, &sound, 16 + fragments * fragment_size(3, VARIANTS[variant as usize]));
+        }
+    }
+}
+
+/// 35 and 36, each beside its neighbours, and the refusals around them. The most that is accepted is asked as above.
+fn most_to_write(tally: &mut Tally, random: &mut Random) {
+    let counts = [
+        TOO_MANY_WITH_HEADER,
+        TOO_MANY_WITH_HEADER + 1,
+        TOO_MANY_TO_WRITE - 1,
+        TOO_MANY_TO_WRITE,
+        TOO_MANY_TO_WRITE + 1,
+        TOO_MANY,
+    ];
+    for channels in 0..=3 {
+        for count in counts {
+            for rate in [RATE, u32::MAX] {
+                ask::write(tally, random, channels, rate, &zeros(tally, count));
+            }
+        }
+        ask::write(tally, random, channels, u32::MAX, &zeros(tally, TOO_MANY_WITH_HEADER - 1));
+    }
+    for channels in 1..=2 {
+        let count = TOO_MANY_WITH_HEADER - 1;
+        ask::write_length(tally, channels, RATE, &zeros(tally, count), 44 + 2 * count);
     }
 }
 

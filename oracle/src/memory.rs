@@ -47,8 +47,23 @@ pub struct Pages<T> {
 }
 
 impl<T: Copy> Pages<T> {
-    /// Zeros, of which no page takes memory before it is touched. None where the system refuses so many.
+    /// Zeros that can only be read, of which none takes memory. None where the system refuses so many.
     pub fn zeros(placement: Placement, length: usize) -> Option<Self> {
+        Self::with_access(placement, length, READ)
+    }
+
+    /// Zeros of which a page takes memory once it is written.
+    pub fn writable_zeros(placement: Placement, length: usize) -> Option<Self> {
+        Self::with_access(placement, length, READ | WRITE)
+    }
+
+    fn copied(placement: Placement, values: &[T]) -> Self {
+        let mut pages = Self::writable_zeros(placement, values.len()).expect("there are pages for a small input");
+        pages.copy_from_slice(values);
+        pages
+    }
+
+    fn with_access(placement: Placement, length: usize, access: c_int) -> Option<Self> {
         let bytes = length * size_of::<T>();
         let size = bytes.next_multiple_of(PAGE).max(PAGE);
         let none = std::ptr::null_mut();
@@ -58,19 +73,15 @@ impl<T: Copy> Pages<T> {
         }
         let gap = if placement == Placement::GuardBehind { size - bytes } else { 0 };
         let pages = Pages { base, size, start: unsafe { base.add(PAGE + gap) } as *mut T, length };
-        pages.allow(READ | WRITE);
-        Some(pages)
+        pages.allowed(access).then_some(pages)
     }
 
-    fn copied(placement: Placement, values: &[T]) -> Self {
-        let mut pages = Pages::zeros(placement, values.len()).expect("there are pages for a small input");
-        pages.copy_from_slice(values);
-        pages
+    fn allowed(&self, access: c_int) -> bool {
+        unsafe { mprotect(self.base.add(PAGE) as *mut c_void, self.size, access) == 0 }
     }
 
     fn allow(&self, access: c_int) {
-        let failed = unsafe { mprotect(self.base.add(PAGE) as *mut c_void, self.size, access) };
-        assert_eq!(failed, 0, "the access of pages can be changed");
+        assert!(self.allowed(access), "the access of pages can be changed");
     }
 }
 
