@@ -102,6 +102,8 @@ fn compare(n: u64, seed: u64) -> Tally {
         tally.start(group);
         ask(&mut tally, &mut random);
     }
+    tally.start("long streams");
+    long_streams(&mut tally, &mut random, (30 * n as usize).clamp(10_000, 3_000_000));
     if bounds().is_empty() {
         eprintln!("the system has no addresses for 2^33 samples: 4, 35 and 36 are not compared");
     }
@@ -320,6 +322,37 @@ fn damaged(random: &mut Random, mut bytes: Vec<u8>) -> Vec<u8> {
 /// The size of a fragment by the header, whatever its bytes.
 fn claimed_size(bytes: &[u8]) -> usize {
     fragment_size(bytes[4], if bytes[5] == 0 { Variant::H } else { Variant::L })
+}
+
+/// Streams of up to `most` samples a channel: of each variant and channel count one that is encoded, and a random one of each version.
+fn long_streams(tally: &mut Tally, random: &mut Random, most: usize) {
+    for variant in VARIANTS {
+        for channels in 1..=2 {
+            let length = most - random.below(most / 2);
+            let samples = lists::interleaved(&(0..channels).map(|_| long_signal(random, length)).collect::<Vec<_>>());
+            let (gain, rate) = ([255, random.byte()][random.below(2)], rate(random).max(1));
+            let sound = Sound { variant: variant as u8, gain, channels, rate, samples: &samples };
+            let stream = ask::encode(tally, random, &sound).expect("a sound is encoded");
+            ask::stream(tally, random, &stream);
+            for version in 1..=3 {
+                let length = most - random.below(most / 2);
+                let stream = lists::random_stream(random, version, variant, channels, length);
+                ask::stream(tally, random, &stream);
+            }
+        }
+    }
+}
+
+/// Sounds at any volume, with pauses between them, since to encode a pause takes little time.
+fn long_signal(random: &mut Random, length: usize) -> Vec<i16> {
+    let mut all = Vec::new();
+    while all.len() < length {
+        let (part, volume) = (1 + random.below(2000), random.below(257) as i32);
+        all.extend(lists::signal(random, part).iter().map(|&sample| (sample as i32 * volume / 256) as i16));
+        all.resize(all.len() + random.below(18_000), 0);
+    }
+    all.truncate(length);
+    all
 }
 
 /// Every value of every header byte.
