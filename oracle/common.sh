@@ -28,8 +28,8 @@ mkdir -p "$out"
 
 # keep FILE: standard input becomes FILE, which keeps its date where the text is the same.
 keep() {
-    cat >"$out/new.$$"
-    if cmp -s "$out/new.$$" "$1"; then rm "$out/new.$$"; else mv "$out/new.$$" "$1"; fi
+    cat >"$out/new-$$"
+    if cmp -s "$out/new-$$" "$1"; then rm "$out/new-$$"; else mv "$out/new-$$" "$1"; fi
 }
 
 # stale FILE SOURCE..: FILE is missing or older than one of its sources.
@@ -45,8 +45,8 @@ checks=yes
 compile() {
     built=$1
     shift
-    rustc --edition 2024 -C opt-level=3 -C "overflow-checks=$checks" -o "$out/new.$$" "$@" >&2
-    mv "$out/new.$$" "$built"
+    rustc --edition 2024 -C opt-level=3 -C "overflow-checks=$checks" -o "$out/new-$$" "$@" >&2
+    mv "$out/new-$$" "$built"
 }
 
 # The reference's two modules by their full paths, for include! in src.

@@ -100,22 +100,59 @@ fn answer_words(answer: &Answer) -> String {
     }
 }
 
+/// The reference's texts and the scope paper's numbers: those of sqv4.rs, of which some go on with values, of wav.rs, and of the
+/// writer. SizeOverflow and the reader's and the writer's other texts can't occur: counts are 64 bits wide.
+const TEXTS: [(&str, u8); 30] = [
+    ("SQV4 error: InvalidChannels", 1),
+    ("SQV4 error: ZeroSampleRate", 2),
+    ("SQV4 error: MisalignedInterleavedSamples", 3),
+    ("SQV4 error: TooManySamples", 4),
+    ("SQV4 error: TruncatedHeader", 5),
+    ("SQV4 error: InvalidMagic", 6),
+    ("SQV4 error: UnsupportedVersion", 7),
+    ("SQV4 error: InvalidVariant", 8),
+    ("SQV4 error: InvalidReservedByte", 9),
+    ("SQV4 error: InvalidFileLength", 10),
+    ("SQV4 error: InvalidStepIndex", 11),
+    ("SQV4 error: NonZeroPadding", 12),
+    ("input is not a RIFF/WAVE file", 20),
+    ("truncated RIFF/WAVE file", 21),
+    ("truncated WAVE chunk header", 22),
+    ("WAVE chunk extends past RIFF boundary", 23),
+    ("invalid or duplicate WAVE fmt chunk", 24),
+    ("duplicate WAVE data chunk", 25),
+    ("WAVE fmt chunk is missing", 26),
+    ("input must use uncompressed 16-bit PCM WAV", 27),
+    ("input must be mono or stereo", 28),
+    ("WAVE sample rate must be nonzero", 29),
+    ("WAVE byte rate overflow", 30),
+    ("inconsistent WAVE byte rate or block alignment", 31),
+    ("WAVE data chunk is missing", 32),
+    ("WAVE data ends in a partial PCM frame", 33),
+    ("preview channel count must be mono or stereo", 34),
+    ("preview WAV exceeds RIFF size limit", 35),
+    ("preview RIFF size overflow", 36),
+    ("preview WAV byte rate overflow", 37),
+];
+
+/// The number of what the reference says. Values stand behind a text in brackets.
+pub fn number(text: &str) -> u8 {
+    let plain = text.split(['(', '{']).next().unwrap_or(text).trim_end();
+    let known = TEXTS.iter().find(|(known, _)| *known == plain);
+    known.unwrap_or_else(|| panic!("no number for the text {text:?}")).1
+}
+
 impl From<Error> for Refusal {
     fn from(error: Error) -> Self {
-        let (number, values) = match error {
-            Error::InvalidChannels(count) => (1, vec![count as usize]),
-            Error::ZeroSampleRate => (2, vec![]),
-            Error::MisalignedInterleavedSamples => (3, vec![]),
-            Error::TooManySamples => (4, vec![]),
-            Error::TruncatedHeader => (5, vec![]),
-            Error::InvalidMagic => (6, vec![]),
-            Error::UnsupportedVersion(byte) => (7, vec![byte as usize]),
-            Error::InvalidVariant(byte) => (8, vec![byte as usize]),
-            Error::InvalidReservedByte(byte) => (9, vec![byte as usize]),
-            Error::InvalidFileLength { expected, actual } => (10, vec![expected, actual]),
-            Error::InvalidStepIndex(byte) => (11, vec![byte as usize]),
-            Error::NonZeroPadding => (12, vec![]),
-            Error::SizeOverflow => panic!("SizeOverflow has no number: counts are 64 bits wide"),
+        let number = number(&error.to_string());
+        let values = match error {
+            Error::InvalidChannels(byte)
+            | Error::UnsupportedVersion(byte)
+            | Error::InvalidVariant(byte)
+            | Error::InvalidReservedByte(byte)
+            | Error::InvalidStepIndex(byte) => vec![byte as usize],
+            Error::InvalidFileLength { expected, actual } => vec![expected, actual],
+            _ => vec![],
         };
         Refusal { number, values }
     }
@@ -124,23 +161,6 @@ impl From<Error> for Refusal {
 /// A WAV refusal is known by its text alone: the field that holds it is private.
 impl From<WaveError> for Refusal {
     fn from(error: WaveError) -> Self {
-        let number = match error.to_string().as_str() {
-            "input is not a RIFF/WAVE file" => 20,
-            "truncated RIFF/WAVE file" => 21,
-            "truncated WAVE chunk header" => 22,
-            "WAVE chunk extends past RIFF boundary" => 23,
-            "invalid or duplicate WAVE fmt chunk" => 24,
-            "duplicate WAVE data chunk" => 25,
-            "WAVE fmt chunk is missing" => 26,
-            "input must use uncompressed 16-bit PCM WAV" => 27,
-            "input must be mono or stereo" => 28,
-            "WAVE sample rate must be nonzero" => 29,
-            "WAVE byte rate overflow" => 30,
-            "inconsistent WAVE byte rate or block alignment" => 31,
-            "WAVE data chunk is missing" => 32,
-            "WAVE data ends in a partial PCM frame" => 33,
-            text => panic!("no number for the text {text:?}"),
-        };
-        Refusal { number, values: vec![] }
+        Refusal { number: number(&error.to_string()), values: vec![] }
     }
 }

@@ -447,36 +447,37 @@ pub fn write(tally: &mut Tally, random: &mut Random, channels: u8, rate: u32, sa
     ask_filled((tally, random), "write", &result, ask, || format!("write {channels} {rate}{}", sample_words(samples)));
 }
 
-/// Runs the reference's converter on a file, and holds the stream and the preview that it writes against ours.
+/// Runs the reference's converter on a file, and holds the stream and the preview that it writes, or its refusal, against ours.
 pub fn whole_converter(tally: &mut Tally, file: &[u8], variant: Variant, gain: u8) {
-    let expected = convert::converted(file, name(variant), gain);
-    let refusal = if expected.is_some() { 0 } else { ours::read_wave(file).refusal };
+    let expected = convert::converted(file, name(variant), gain).map_err(|refusal| refusal.number as usize);
     let ours = converted(file, variant, gain);
-    for (call, part) in [("stream", 0), ("preview", 1)] {
-        let pick = |files: &Option<(Vec<u8>, Vec<u8>)>| {
-            files.clone().map(|(stream, preview)| [stream, preview][part].clone())
-        };
-        tally.count(call, refusal, pick(&ours) == pick(&expected), || {
-            (format!("{call} of {} {gain}", name(variant)), format!("wav {}", hex(file)))
+    let due = expected.as_ref().err().copied().unwrap_or(0);
+    let picks: [(&str, fn((Vec<u8>, Vec<u8>)) -> Vec<u8>); 2] = [("stream", |files| files.0), ("preview", |files| files.1)];
+    for (call, pick) in picks {
+        let (ours, expected) = (ours.clone().map(pick), expected.clone().map(pick));
+        tally.count(call, due, ours == expected, || {
+            let [said, due] = [&ours, &expected].map(|side| side.as_ref().err().unwrap_or(&0));
+            let says = format!("{call} of {} {gain}: refusal {said}, expected {due}", name(variant));
+            (says, format!("wav {}", hex(file)))
         });
     }
 }
 
-/// The same by the calls for C: WAV reading, the encoder; the decoder, the WAV writer.
-fn converted(file: &[u8], variant: Variant, gain: u8) -> Option<(Vec<u8>, Vec<u8>)> {
+/// The same by the calls for C: WAV reading, the encoder; the decoder, the WAV writer. The first refusal of a call is the answer.
+fn converted(file: &[u8], variant: Variant, gain: u8) -> Result<(Vec<u8>, Vec<u8>), usize> {
+    let accepted = |refusal: usize| if refusal == 0 { Ok(()) } else { Err(refusal) };
     let wave = ours::read_wave(file);
-    if wave.refusal != 0 {
-        return None;
-    }
+    accepted(wave.refusal)?;
     let mut samples = vec![0; wave.size / 2];
-    ours::load_samples(&file[wave.start..wave.start + wave.size], &mut samples);
+    accepted(ours::load_samples(&file[wave.start..wave.start + wave.size], &mut samples).refusal)?;
     let encode = |out: &mut [u8]| ours::encode(&samples, wave.channels as u8, wave.rate, variant as u8, gain, out);
     let mut stream = vec![0; encode(&mut []).first];
-    encode(&mut stream);
+    accepted(encode(&mut stream).refusal)?;
     let mut decoded = vec![0; samples.len()];
     let header = ours::decode(&stream, &mut decoded);
+    accepted(header.refusal)?;
     let write = |out: &mut [u8]| ours::write_wave(header.channels, header.rate, &decoded, out);
     let mut preview = vec![0; write(&mut []).first];
-    write(&mut preview);
-    Some((stream, preview))
+    accepted(write(&mut preview).refusal)?;
+    Ok((stream, preview))
 }

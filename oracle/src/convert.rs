@@ -2,7 +2,7 @@
 
 include!(env!("ORACLE_CONVERT"));
 
-use crate::answer::Refusal;
+use crate::answer::{self, Refusal};
 
 /// A file of this name that no other process writes, in memory where there is such a folder.
 pub fn scratch(name: &str) -> PathBuf {
@@ -26,25 +26,25 @@ pub fn write(path: &Path, channels: u8, rate: u32, samples: &[i16]) {
 /// The file that the reference writes. Its refusals are known by their texts alone.
 pub fn written(channels: u8, rate: u32, samples: &[i16]) -> Result<Vec<u8>, Refusal> {
     let path = scratch(".wav");
-    let number = match write_pcm16_wave(&path, channels, rate, samples) {
-        Ok(()) => return Ok(taken(&path)),
-        Err(text) => match text.as_str() {
-            "preview channel count must be mono or stereo" => 34,
-            "preview WAV exceeds RIFF size limit" => 35,
-            "preview RIFF size overflow" => 36,
-            "preview WAV byte rate overflow" => 37,
-            text => panic!("no number for the text {text:?}"),
-        },
-    };
-    Err(Refusal { number, values: vec![] })
+    match write_pcm16_wave(&path, channels, rate, samples) {
+        Ok(()) => Ok(taken(&path)),
+        Err(text) => Err(Refusal { number: answer::number(&text), values: vec![] }),
+    }
 }
 
-/// What the reference's converter, run as a program on files, makes of a WAV file: the stream and the preview. None where it refuses.
-pub fn converted(file: &[u8], variant: &str, gain: u8) -> Option<(Vec<u8>, Vec<u8>)> {
+/// What the reference's converter, run as a program on files, makes of a WAV file: the stream and the preview. Where it refuses,
+/// it says why on standard error, exits with 2 and writes no file.
+pub fn converted(file: &[u8], variant: &str, gain: u8) -> Result<(Vec<u8>, Vec<u8>), Refusal> {
     let (input, output, preview) = (scratch(".in.wav"), scratch(".sqv"), scratch(".preview.wav"));
     fs::write(&input, file).unwrap();
     let mut program = process::Command::new("target/oracle/sqv4_convert");
     let run = program.args([&input, &output]).args([variant, &gain.to_string()]).output().unwrap();
     fs::remove_file(&input).unwrap();
-    run.status.success().then(|| (taken(&output), taken(&preview)))
+    if run.status.success() {
+        return Ok((taken(&output), taken(&preview)));
+    }
+    let said = String::from_utf8(run.stderr).unwrap();
+    let text = said.strip_prefix("SQV4 conversion failed: ").and_then(|rest| rest.strip_suffix('\n'));
+    assert!(run.status.code() == Some(2) && !output.exists() && !preview.exists(), "{said:?}");
+    Err(Refusal { number: answer::number(text.expect("a refusal says why")), values: vec![] })
 }

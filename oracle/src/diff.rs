@@ -30,7 +30,7 @@ mod reference {
 }
 
 use ask::{Channels, Fragment, Sound};
-use input::{VARIANTS, fragment_size, frame_samples, prefix};
+use input::{Input, VARIANTS, fragment_size, frame_samples, prefix};
 use lists::{Fields, MONO, RATE, Random, SPOILS, STEREO};
 use memory::{Pages, Placement};
 use reference::sqv4::{self, State, Variant};
@@ -90,6 +90,7 @@ fn compare(n: u64, seed: u64) -> Tally {
     (0..n.div_ceil(10)).for_each(|_| write(&mut tally, &mut random));
     tally.start("whole converter");
     (0..n.div_ceil(1000)).for_each(|_| whole_converter(&mut tally, &mut random));
+    listed_conversions(&mut tally, &mut random);
 
     let whole: [Group; 5] = [
         ("all header bytes", header_bytes),
@@ -697,13 +698,27 @@ fn write(tally: &mut Tally, random: &mut Random) {
     ask::write(tally, random, channels, rate, &samples);
 }
 
-/// A file for the reference's converter, run as a program: a sound, at times damaged.
+/// A file for the reference's converter, run as a program: a sound, at times damaged, or chunks as above.
 fn whole_converter(tally: &mut Tally, random: &mut Random) {
     let fields = [MONO, STEREO][random.below(2)];
     let length = length(random, 63);
     let mut file = lists::sound(fields, &samples(random, fields.channels as usize, length));
-    if rarely(random, 4) {
-        damage_wave(random, &mut file);
+    match random.below(4) {
+        0 => damage_wave(random, &mut file),
+        1 => file = wave_bytes(random),
+        _ => {}
     }
     ask::whole_converter(tally, &file, VARIANTS[random.below(3)], random.byte());
+}
+
+/// The list of WAV files, which has every refusal of the reader, and so of the converter.
+fn listed_conversions(tally: &mut Tally, random: &mut Random) {
+    for (_, input) in input::read(&lists::list("waves").expect("a list")).expect("a list can be read") {
+        if let Input::Wav(file) = input {
+            ask::whole_converter(tally, &file, VARIANTS[random.below(3)], random.byte());
+        }
+    }
+    for refusal in 20..=33 {
+        ["stream", "preview"].iter().for_each(|call| tally.require(call, refusal));
+    }
 }
