@@ -1,4 +1,4 @@
-# Read by run, diff and bench: where things are, and how they are built. What is up to date is not built again.
+# Read by run, diff, bench and fuzz: where things are, and how they are built. What is up to date is not built again.
 #
 # The reference sources are not part of this repository. They are read from the folder in the variable SRC32, or else
 # from ../shared/docs/src beside the repository.

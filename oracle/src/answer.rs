@@ -100,8 +100,8 @@ fn answer_words(answer: &Answer) -> String {
     }
 }
 
-/// The reference's texts and the scope paper's numbers: those of sqv4.rs, of which some go on with values, of wav.rs, and of the
-/// writer. SizeOverflow and the reader's and the writer's other texts can't occur: counts are 64 bits wide.
+/// The reference's texts and the scope paper's numbers: those of sqv4.rs, of which some go on with values, of wav.rs,
+/// and of the writer. SizeOverflow and the other texts on sizes have none: counts are 64 bits wide.
 const TEXTS: [(&str, u8); 30] = [
     ("SQV4 error: InvalidChannels", 1),
     ("SQV4 error: ZeroSampleRate", 2),

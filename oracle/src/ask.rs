@@ -117,8 +117,8 @@ fn rooms<T>(random: &mut Random, result: &Result<Vec<T>, Refusal>) -> Vec<usize>
     }
 }
 
-/// Makes a call with an output of so many places, holds its answer and the output against what they must be, and says whether
-/// they are that. A refused call may not write.
+/// Makes a call with an output of so many places, holds its answer and the output against what they must be, and
+/// says whether they are that. A refused call may not write.
 fn judge<T: Place>(
     tally: &mut Tally,
     call: &'static str,
@@ -444,15 +444,19 @@ pub fn write(tally: &mut Tally, random: &mut Random, channels: u8, rate: u32, sa
     let result = convert::written(channels, rate, samples);
     let lent = lent(tally.placement(), samples);
     let ask = |out: &mut [u8]| ours::write_wave(channels, rate, &lent, out);
-    ask_filled((tally, random), "write", &result, ask, || format!("write {channels} {rate}{}", sample_words(samples)));
+    ask_filled((tally, random), "write", &result, ask, || {
+        format!("write {channels} {rate}{}", sample_words(samples))
+    });
 }
 
-/// Runs the reference's converter on a file, and holds the stream and the preview that it writes, or its refusal, against ours.
+/// Runs the reference's converter on a file, and holds the stream and the preview that it writes, or its refusal,
+/// against ours.
 pub fn whole_converter(tally: &mut Tally, file: &[u8], variant: Variant, gain: u8) {
     let expected = convert::converted(file, name(variant), gain).map_err(|refusal| refusal.number as usize);
     let ours = converted(file, variant, gain);
     let due = expected.as_ref().err().copied().unwrap_or(0);
-    let picks: [(&str, fn((Vec<u8>, Vec<u8>)) -> Vec<u8>); 2] = [("stream", |files| files.0), ("preview", |files| files.1)];
+    let picks: [(&str, fn((Vec<u8>, Vec<u8>)) -> Vec<u8>); 2] =
+        [("stream", |files| files.0), ("preview", |files| files.1)];
     for (call, pick) in picks {
         let (ours, expected) = (ours.clone().map(pick), expected.clone().map(pick));
         tally.count(call, due, ours == expected, || {
@@ -463,7 +467,8 @@ pub fn whole_converter(tally: &mut Tally, file: &[u8], variant: Variant, gain: u
     }
 }
 
-/// The same by the calls for C: WAV reading, the encoder; the decoder, the WAV writer. The first refusal of a call is the answer.
+/// The same by the calls for C: WAV reading, the encoder; the decoder, the WAV writer. The first refusal of a call is
+/// the answer.
 fn converted(file: &[u8], variant: Variant, gain: u8) -> Result<(Vec<u8>, Vec<u8>), usize> {
     let accepted = |refusal: usize| if refusal == 0 { Ok(()) } else { Err(refusal) };
     let wave = ours::read_wave(file);

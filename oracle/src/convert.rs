@@ -32,8 +32,8 @@ pub fn written(channels: u8, rate: u32, samples: &[i16]) -> Result<Vec<u8>, Refu
     }
 }
 
-/// What the reference's converter, run as a program on files, makes of a WAV file: the stream and the preview. Where it refuses,
-/// it says why on standard error, exits with 2 and writes no file.
+/// What the reference's converter, run as a program on files, makes of a WAV file: the stream and the preview. Where it
+/// refuses, it says why on standard error, exits with 2 and writes no file.
 pub fn converted(file: &[u8], variant: &str, gain: u8) -> Result<(Vec<u8>, Vec<u8>), Refusal> {
     let (input, output, preview) = (scratch(".in.wav"), scratch(".sqv"), scratch(".preview.wav"));
     fs::write(&input, file).unwrap();

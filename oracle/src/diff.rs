@@ -325,7 +325,8 @@ fn claimed_size(bytes: &[u8]) -> usize {
     fragment_size(bytes[4], if bytes[5] == 0 { Variant::H } else { Variant::L })
 }
 
-/// Streams of up to `most` samples a channel: of each variant and channel count one that is encoded, and a random one of each version.
+/// Streams of up to `most` samples a channel: of each variant and channel count one that is encoded, and a random one
+/// of each version.
 fn long_streams(tally: &mut Tally, random: &mut Random, most: usize) {
     for variant in VARIANTS {
         for channels in 1..=2 {

@@ -1,5 +1,5 @@
-/* What oracle/fuzz gives to libFuzzer: the calls of include/postlapse.h on any bytes, in guarded memory, held against each other.
- * The reference has no part in it. */
+/* What oracle/fuzz gives to libFuzzer: the calls of include/postlapse.h on any bytes, in guarded memory, held against
+ * each other. The reference has no part in it. */
 #include "postlapse.h"
 #include <stdio.h>
 #include <stdlib.h>
@@ -92,7 +92,8 @@ static int same_header(postlapse_header_answer a, postlapse_header_answer b)
 
 static int same_wave(postlapse_wave_answer a, postlapse_wave_answer b)
 {
-    return a.refusal == b.refusal && a.channels == b.channels && a.rate == b.rate && a.start == b.start && a.size == b.size;
+    return a.refusal == b.refusal && a.channels == b.channels && a.rate == b.rate && a.start == b.start
+        && a.size == b.size;
 }
 
 static postlapse_answer answer_of(size_t refusal, size_t first)
@@ -161,8 +162,10 @@ static size_t fragment_refusal(uint8_t version, uint8_t variant, postlapse_state
     return version != 3 && !in_range ? 15 : 0;
 }
 
-/* Both fragment decoders: they agree, and write a state only where versions 1 and 2 give a result. The samples stand in `outputs`. */
-static postlapse_state play(uint8_t version, uint8_t variant, postlapse_state state, const void *from, size_t size, size_t count)
+/* Both fragment decoders: they agree, and write a state only where versions 1 and 2 give a result. The samples stand in
+ * `outputs` afterwards, and the state is returned. */
+static postlapse_state play(uint8_t version, uint8_t variant, postlapse_state state, const void *from, size_t size,
+                            size_t count)
 {
     size_t refusal = fragment_refusal(version, variant, state, size, count);
     size_t first = refusal == 8 ? variant : refusal == 7 ? version : refusal == 0 ? count : 0;
@@ -258,7 +261,8 @@ static void sound_stream(bytes from)
     size_t samples = word(&from) % 260, frames = (samples + frame_samples(version) - 1) / frame_samples(version);
     size_t size = fragment_size(version, variant), most = frame_samples(version);
     bytes pick = from;
-    uint8_t header[16] = { 'S', 'Q', 'V', '4', version, variant, channels, 0, 1, 0, 0, 0, (uint8_t)samples, (uint8_t)(samples >> 8) };
+    uint8_t header[16] = { 'S', 'Q', 'V', '4', version, variant, channels, 0, 1 };
+    header[12] = (uint8_t)samples, header[13] = (uint8_t)(samples >> 8);
     memcpy(stream, header, 16);
     for (size_t frame = 0; frame < frames; frame++) {
         size_t count = samples - frame * most < most ? samples - frame * most : most;
@@ -277,8 +281,8 @@ static void sound_stream(bytes from)
 /* What the encoder gives is accepted, and says what was given to it. */
 static void any_sound(bytes from)
 {
-    uint8_t variant = small(&from, 0, 3), channels = small(&from, 1, 2), gain = byte(&from), zero_rate = byte(&from) == 7;
-    uint32_t rate = zero_rate ? 0 : word(&from);
+    uint8_t variant = small(&from, 0, 3), channels = small(&from, 1, 2), gain = byte(&from);
+    uint32_t rate = byte(&from) == 7 ? 0 : word(&from);
     bytes pick = from;
     byte(&from);
     size_t count = from.left / 2, length = 0, refusal;
@@ -391,7 +395,9 @@ int LLVMFuzzerInitialize(int *count, char ***words)
 /* The first byte says what the others are, and on which side the guard pages are. */
 int LLVMFuzzerTestOneInput(const uint8_t *data, size_t size)
 {
-    static void (*const kinds[6])(bytes) = { any_stream, sound_stream, any_sound, any_fragment, any_wave, written_wave };
+    static void (*const kinds[6])(bytes) = {
+        any_stream, sound_stream, any_sound, any_fragment, any_wave, written_wave,
+    };
     bytes from = { data, size };
     uint8_t kind = byte(&from);
     at_end = kind & 1;

@@ -1,5 +1,6 @@
-//! Calls in guarded memory. One that touches what it may not is stopped by the system, so they are made in a child process, which
-//! tells on a pipe what it asks and what came of it. One that dies counts as a difference, and another child goes on after it.
+//! Calls in guarded memory. One that touches what it may not is stopped by the system, so they are made in a child
+//! process, which tells on a pipe what it asks and what came of it. One that dies counts as a difference, and another
+//! child goes on after it.
 
 use crate::lists::Random;
 use crate::memory::Placement;
@@ -107,7 +108,8 @@ struct Asked {
     line: String,
 }
 
-/// Reads what a child tells, up to its end: the call that it was in, if any. What an earlier child told is not counted again.
+/// Reads what a child tells, up to its end: the call that it was in, if any. What an earlier child told is not
+/// counted again.
 fn listen(tally: &mut Tally, progress: &mut Progress, reader: PipeReader) -> Option<Asked> {
     let (mut asked, mut calls) = (None::<Asked>, 0);
     for line in BufReader::new(reader).lines() {

@@ -1,5 +1,5 @@
-//! The longest sound that the encoder takes and the most samples that the writer takes, by both sides. They take gigabytes and
-//! minutes, so that they are asked only by `oracle/diff longest`.
+//! The longest sound that the encoder takes and the most samples that the writer takes, by both sides. They take
+//! gigabytes and a minute, so that they are asked only by `oracle/diff longest`.
 
 use crate::convert;
 use crate::lists::{RATE, Random};
@@ -37,7 +37,8 @@ pub fn compare(tally: &mut Tally, random: &mut Random) {
 
 /// Silence with a sample here and there, the last one too.
 fn clicks(random: &mut Random, length: usize) -> Pages<i16> {
-    let mut samples = Pages::writable_zeros(Placement::GuardBehind, length).expect("there are addresses for the samples");
+    let mut samples =
+        Pages::writable_zeros(Placement::GuardBehind, length).expect("there are addresses for the samples");
     for _ in 0..10_000 {
         samples[random.below(length)] = random.sample();
     }

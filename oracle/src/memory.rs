@@ -1,5 +1,5 @@
-//! Memory that is lent to a call: on the heap, or in pages of its own between two that nobody may touch. There the system stops a call
-//! that goes past what it is lent, or that writes what it may only read.
+//! Memory that is lent to a call: on the heap, or in pages of its own between two that nobody may touch. There the
+//! system stops a call that goes past what it is lent, or that writes what it may only read.
 
 use std::ffi::{c_int, c_void};
 use std::ops::{Deref, DerefMut};

@@ -1,5 +1,6 @@
-//! Pointers that include/postlapse.h does not allow: null where the length is 0, and addresses that are not aligned. The calls have
-//! taken them in every try so far; here each is held against the same call with a pointer that is allowed.
+//! Pointers that include/postlapse.h does not allow: null where the length is 0, and addresses that are not aligned.
+//! The calls have taken them in every try so far; here each is held against the same call with a pointer that is
+//! allowed.
 
 use crate::ask::{Numbers, answered, fragment_answered, header_answered, wave_answered};
 use crate::lists::{self, RATE, Random};

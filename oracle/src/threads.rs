@@ -64,11 +64,12 @@ impl Shared {
             "write" => filled(room, |out| answered(ours::write_wave(channels, RATE, pcm, out))),
             "inspect" => (header_answered(ours::inspect(stream)), vec![]),
             "decode" => filled(room, |out| header_answered(ours::decode(stream, out))),
-            "fragment" => filled(count, |out| {
-                fragment_answered(ours::decode_fragment(version, variant, state, fragment, out))
-            }),
+            "fragment" => {
+                filled(count, |out| fragment_answered(ours::decode_fragment(version, variant, state, fragment, out)))
+            }
             "fragment lent" => {
-                let mut ask = |out: &mut [i16]| ours::decode_fragment_lent(version, variant, &mut state, fragment, out);
+                let mut ask =
+                    |out: &mut [i16]| ours::decode_fragment_lent(version, variant, &mut state, fragment, out);
                 let (answer, mut places) = filled(count, |out| answered(ask(out)));
                 places.extend([state.predictor as i64, state.index as i64]);
                 (answer, places)
