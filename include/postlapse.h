@@ -1,15 +1,17 @@
 /* Postlapse: the SQV4 voice codec and 16-bit WAV files, for C.
  *
  * Link with libpostlapse.a (`rt staticlib postlapse` writes it to target/staticlib). The archive is for x86-64 Linux, and needs
- * nothing of others but memcpy.
+ * nothing of others but memcpy and memset.
  *
  * Each call answers for every input, by value. It takes no heap, keeps nothing between calls, and may run in several threads at
  * once. Where `refusal` is 0 the call has done what it says; it fills its output from the front, and later places stay as they
- * were. Where `refusal` is not 0 it is a number of the table below, and the call has changed nothing.
+ * were. Where `refusal` is not 0 it is a number of the table below, and the call has written nothing to the caller's memory.
  *
- * The caller's duty: each pointer is valid for as many elements as the length behind it says (elements, not bytes), aligned, and
- * not null even where that length is 0; no output or state overlaps anything else that is passed; and nobody else writes any of it
- * during the call.
+ * The caller's duty, from which the proofs start: each pointer is valid for as many elements as the length behind it says (elements,
+ * not bytes), aligned, and not null even where that length is 0; no output or state overlaps anything else that is passed; and nobody
+ * else writes any of it during the call. Tried beside that, and not proved: a null pointer with length 0, 16-bit numbers at an odd
+ * address and a state that is not aligned gave the right answers; a null state faults; an output that overlaps an input gets wrong
+ * samples, but nothing outside of both is touched.
  *
  * What a call refuses, with the numbers that it returns in `first` and `second` (0 where there are none):
  *
@@ -135,7 +137,8 @@ postlapse_header_answer postlapse_decode(const uint8_t *file, size_t size, int16
 postlapse_fragment_answer postlapse_decode_fragment(uint8_t version, uint8_t variant, int32_t predictor, size_t index,
                                                     const uint8_t *fragment, size_t size, int16_t *out, size_t count);
 
-/* The same with the channel's state in the caller's memory, where it is changed in place. */
+/* The same with the channel's state in the caller's memory: versions 1 and 2 store predictor and index there where they decode. A
+ * refusal, and version 3, only read it. */
 postlapse_answer postlapse_decode_fragment_lent(uint8_t version, uint8_t variant, postlapse_state *state, const uint8_t *fragment,
                                                 size_t size, int16_t *out, size_t count);
 
