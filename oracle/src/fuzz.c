@@ -253,12 +253,15 @@ static void any_stream(bytes from)
     check_stream(from.at, from.left, &pick);
 }
 
-/* A stream with a sound header and as many fragments as that says. */
+/* A stream with a sound header and as many fragments as that says, which is accepted; or the same with a byte changed
+ * or the last one cut off. */
 static void sound_stream(bytes from)
 {
-    static uint8_t stream[16 + 40 * 34];
+    static uint8_t stream[16 + 2 * 17 * 34];
+    uint8_t damage = byte(&from), value = byte(&from);
+    size_t changed = word(&from);
     uint8_t version = 1 + byte(&from) % 3, variant = byte(&from) % 3, channels = 1 + byte(&from) % 2;
-    size_t samples = word(&from) % 260, frames = (samples + frame_samples(version) - 1) / frame_samples(version);
+    size_t samples = word(&from) % 1050, frames = (samples + frame_samples(version) - 1) / frame_samples(version);
     size_t size = fragment_size(version, variant), most = frame_samples(version);
     bytes pick = from;
     uint8_t header[16] = { 'S', 'Q', 'V', '4', version, variant, channels, 0, 1 };
@@ -274,8 +277,10 @@ static void sound_stream(bytes from)
             if (codes % 8 != 0) fragment[head + codes / 8] &= (1 << codes % 8) - 1;
         }
     }
-    postlapse_header_answer answer = check_stream(stream, 16 + frames * channels * size, &pick);
-    HOLDS(answer.refusal == 0 && answer.samples == samples && answer.channels == channels);
+    size_t length = 16 + frames * channels * size;
+    if (damage >= 128) stream[changed % (damage & 1 ? 16 : length)] = value;
+    postlapse_header_answer answer = check_stream(stream, length - (damage >= 250), &pick);
+    if (damage < 128) HOLDS(answer.refusal == 0 && answer.samples == samples && answer.channels == channels);
 }
 
 /* What the encoder gives is accepted, and says what was given to it. */
@@ -352,6 +357,52 @@ static void any_wave(bytes from)
     check_load(from.at, from.left, &pick);
 }
 
+static void put(uint8_t **to, uint32_t value, int size)
+{
+    for (int at = 0; at < size; at++) *(*to)++ = (uint8_t)(value >> (8 * at));
+}
+
+/* The contents of a fmt chunk, each field at times wrong. */
+static void put_format(uint8_t **to, bytes *from)
+{
+    uint8_t wrong = byte(from), channels = 1 + byte(from) % 2;
+    uint32_t rate = word(from);
+    if (wrong < 128) wrong = 0;
+    put(to, wrong & 1 ? byte(from) : 1, 2);
+    put(to, wrong & 2 ? byte(from) : channels, 2);
+    put(to, wrong & 4 ? 0 : rate, 4);
+    put(to, wrong & 8 ? word(from) : rate * channels * 2, 4);
+    put(to, wrong & 16 ? byte(from) : channels * 2, 2);
+    put(to, wrong & 32 ? byte(from) : 16, 2);
+}
+
+/* A file of chunks in any order, with sizes that are mostly theirs. */
+static void chunked_wave(bytes from)
+{
+    static uint8_t file[4096];
+    bytes pick = from;
+    byte(&from);
+    uint8_t *end = file + 12;
+    for (int chunks = byte(&from) % 6; chunks > 0; chunks--) {
+        uint8_t kind = byte(&from), *head = end;
+        end += 8;
+        size_t size = kind & 64 ? byte(&from) : 4 * (byte(&from) % 16);
+        if (kind % 4 == 0) put_format(&end, &from), size = kind & 128 ? byte(&from) % 40 : 0;
+        for (; size > 0; size--) *end++ = byte(&from);
+        size = (size_t)(end - head) - 8;
+        memcpy(head, kind % 4 == 0 ? "fmt " : kind % 4 == 1 ? "data" : kind % 4 == 2 ? "LIST" : "fact", 4);
+        head += 4;
+        put(&head, (kind & 63) > 60 ? word(&from) : (uint32_t)size, 4);
+        if (size % 2 != 0) *end++ = 0;
+    }
+    uint8_t last = byte(&from), *head = file;
+    memcpy(file, "RIFF    WAVE", 12);
+    head += 4;
+    put(&head, last > 240 ? word(&from) : (uint32_t)(end - file) - 8 - (last > 220), 4);
+    if (last & 1) *end++ = byte(&from);
+    check_wave(file, (size_t)(end - file), &pick);
+}
+
 /* A file that is written is read back as it was given, or refused where a reader refuses what the writer takes. */
 static void written_wave(bytes from)
 {
@@ -395,12 +446,12 @@ int LLVMFuzzerInitialize(int *count, char ***words)
 /* The first byte says what the others are, and on which side the guard pages are. */
 int LLVMFuzzerTestOneInput(const uint8_t *data, size_t size)
 {
-    static void (*const kinds[6])(bytes) = {
-        any_stream, sound_stream, any_sound, any_fragment, any_wave, written_wave,
+    static void (*const kinds[7])(bytes) = {
+        any_stream, sound_stream, any_sound, any_fragment, any_wave, chunked_wave, written_wave,
     };
     bytes from = { data, size };
     uint8_t kind = byte(&from);
     at_end = kind & 1;
-    kinds[kind / 2 % 6](from);
+    kinds[kind / 2 % 7](from);
     return 0;
 }
