@@ -45,6 +45,7 @@ const USAGE: &str = "usage: oracle/diff [N] [SEED]
 fn main() -> ExitCode {
     let words: Vec<String> = std::env::args().skip(1).collect();
     let numbers: Vec<u64> = words.iter().map_while(|word| word.parse().ok()).collect();
+    let _ = std::fs::remove_file(DIFFERS);
     let tally = match numbers[..] {
         _ if words == ["longest"] => longest(),
         _ if numbers.len() < words.len() || words.len() > 2 => {
@@ -54,7 +55,6 @@ fn main() -> ExitCode {
         _ => compare(*numbers.first().unwrap_or(&100_000), *numbers.get(1).unwrap_or(&1)),
     };
     print!("{}", tally.report());
-    let _ = std::fs::remove_file(DIFFERS);
     if tally.differ() > 0 {
         std::fs::write(DIFFERS, tally.differing()).expect("target/oracle can be written");
         println!("the smallest input of each kind that differs: {DIFFERS}");
