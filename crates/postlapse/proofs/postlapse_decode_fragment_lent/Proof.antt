@@ -14,11 +14,11 @@ use base.Logic.{SProp, ent, emp, via, fst∗, id⊢}
 use base.Fml.{Lft, Share, Fml, ftrue, fat, froom, fdies, flft, fobs, fauth, fbor, fobor}
 use prog.Memory.{Memory}
 use prog.Routine.{Routine}
-use prog.Wp.{Heap, Env, Calls, Loops, WpFn, Tables}
+use prog.Wp.{Heap, Env, Calls, Loops, Wp, WpFn, atReturn, Tables}
 use ghost.Atoms.{Atoms}
 use contract.Monad.{Fun, fact}
 use contract.Running.{givenOf, tables, tablesOf}
-use types.Kit.{Given, Item, Sq, runs, atRet, ‵, raw, some, later, _⊛_, ⋆, _$_, _∵_, !, qed, by, move, keep, drop, use1, use3, split, join, pick, rewrite, fsplit, fsplit3, fjoin, fjoin3, feqL, feqI, suffices, frame, await, done}
+use types.Kit.{Given, Item, Sq, prop, atRet, ‵, raw, some, later, _⊛_, ⋆, _$_, _∵_, !, qed, by, move, keep, drop, use1, use3, split, join, pick, rewrite, fsplit, fsplit3, fjoin, fjoin3, feqL, feqI, suffices, frame, await, done}
 use types.Run.{look, look-raw, init, forget, stop, hop, fld, from, load, addr, of-opd, and-then, no-more, assigns, assigns-last, first, branches, skips, exec, land, returns, enter, alloc1, alloc0, params1, pass1, pass0, free1, free0}
 use types.Part.{agg, whole, sub, look-in, store-in}
 use types.SemTy.{Body}
@@ -209,8 +209,9 @@ module _ {M : Type 1} (𝓤 : URA M) (H : Heap 𝓤) (A : Atoms 𝓤) (W : Given
             (local (sliceTy (first-of (named 2))) l₅ zval (local fragment-ty l₄ yval (local state-ty l₃ (vptr b o) (local (tyInt w8) l₂ (vint w8 var) (local (tyInt w8) l₁ (vint w8 n) (‵ (froom N′.mir l₀ 0) ∷ ‵ (fdies N′.mir l₀) ∷ ‵ Frag ∷ []))))))))))
 
         -- what follows the branch: the borrow is closed at s, and the answer is returned
-        leaves : (r : Played) (s : State) (zs : List ℤ) (w : Val) → Is P.the-row r (w ∷ []) → Is S.the-row s (sval s ∷ []) → Promised (r .answer) s zs → length zs ≡ length (z .now) → Sq W (Ctx r s zs) (runs C Λ E t-7 (atRet E Post))
+        leaves : (r : Played) (s : State) (zs : List ℤ) (w : Val) → Is P.the-row r (w ∷ []) → Is S.the-row s (sval s ∷ []) → Promised (r .answer) s zs → length zs ≡ length (z .now) → Sq W (Ctx r s zs) (prop (Wp 𝓤 H C Λ E t-7 (atReturn 𝓤 H E Post)))
         leaves r s zs w r-is is e l =
+            exec ! C Λ E t-7 (atRet E Post) $
             assigns ! (of-opd ! (load ! (from ! (fld ! refl (stop !))) (look-in ! 12 (sub ! 0 refl (whole !))))) (from ! (stop !)) (init ! 26 refl (LL.lawful N.the-type N′.the-laws 𝓤 H A W .typed (r .answer) _ (answer-is r w r-is) .0)) $
             owned ! S.the-row (Is S.the-row) (LL.makes S.the-type S′.the-plain 𝓤 H A) s _ is $ move ! (3 ∷ 0 ∷ 4 ∷ 5 ∷ 6 ∷ []) $ closes ! tt S.the-row s (sval s ∷ []) b o $
             -- [obs; the borrow; the token; the core's tokens; the last list; _10; …; _0; …; the fragment's]
@@ -254,9 +255,9 @@ module _ {M : Type 1} (𝓤 : URA M) (H : Heap 𝓤) (A : Atoms 𝓤) (W : Given
           -- predictor and index are stored
           (λ _. assigns ! (of-opd ! (load ! (from ! (fld ! refl (fld ! refl (stop !)))) (look-in ! 12 (sub ! 0 refl (sub ! 1 refl (whole !)))))) (from ! (hop ! (look ! 20 refl) (fld ! refl (stop !)))) (store-in ! 2 (sub ! 0 refl (whole !)) (sint-lawful 𝓤 H A W w32 .typed (r .state .predictor) _ (fields (r .state) _ (state-is r w w-is) .0) .0)) $
           assigns-last ! (of-opd ! (load ! (from ! (fld ! refl (fld ! refl (stop !)))) (look-in ! 12 (sub ! 1 refl (sub ! 1 refl (whole !)))))) (from ! (hop ! (look ! 20 refl) (fld ! refl (stop !)))) (store-in ! 2 (sub ! 1 refl (whole !)) (uint-lawful 𝓤 H A W w64 .typed (r .state .index) _ (fields (r .state) _ (state-is r w w-is) .1) .0)) $
-          exec ! C Λ (E l₀ l₁ l₂ l₃ l₄ l₅ l₆ l₇ l₈ l₉ l₁₀) t-7 (atRet (E l₀ l₁ l₂ l₃ l₄ l₅ l₆ l₇ l₈ l₉ l₁₀) Post) $ leaves l₀ l₁ l₂ l₃ l₄ l₅ l₆ l₇ l₈ l₉ l₁₀ r (r .state) (zs .1 .1 .1 .1 .0) w w-is (state-is r w w-is) (e .0) l)
+          leaves l₀ l₁ l₂ l₃ l₄ l₅ l₆ l₇ l₈ l₉ l₁₀ r (r .state) (zs .1 .1 .1 .1 .0) w w-is (state-is r w w-is) (e .0) l)
           -- nothing is stored
-          (λ f. skips ! $ exec ! C Λ (E l₀ l₁ l₂ l₃ l₄ l₅ l₆ l₇ l₈ l₉ l₁₀) t-7 (atRet (E l₀ l₁ l₂ l₃ l₄ l₅ l₆ l₇ l₈ l₉ l₁₀) Post) $ leaves l₀ l₁ l₂ l₃ l₄ l₅ l₆ l₇ l₈ l₉ l₁₀ r h (zs .1 .1 .1 .1 .0) w w-is is (kept r (zs .1 .1 .1 .1 .0) e f) l))))))))))))))))))))
+          (λ f. skips ! $ leaves l₀ l₁ l₂ l₃ l₄ l₅ l₆ l₇ l₈ l₉ l₁₀ r h (zs .1 .1 .1 .1 .0) w w-is is (kept r (zs .1 .1 .1 .1 .0) e f) l))))))))))))))))))))
 
 module _ {M : Type 1} (𝓤 : URA M) (H : Heap 𝓤) (A : Atoms 𝓤) (W : Given 𝓤 H A) (mem : Memory → SProp 𝓤) (run : Routine → Fun 𝓤) where
   lent-walks : (C : Calls 𝓤 H) (Λ : Loops 𝓤 H) → FmC 𝓤 H (W .laws) C → Triple 𝓤 (C #postlapse·play) (Core 𝓤 H A mem run) → Walks 𝓤 H A f.ended stayed (WpFn 𝓤 H C Λ code.function) (f.clauses 𝓤 H A mem run)
