@@ -9,7 +9,7 @@ use Rattle.lists.specs.Lists.{tabulate}
 use Rattle.lists.specs.Tests.{eqZ}
 use Rattle.format.specs.Step.{stepped}
 use Rattle.format.specs.Gain.{pregained, volumeOf, normalised, outputGain}
-use Rattle.format.specs.Decode.{zeroState, Called, fragmentCall, called}
+use Rattle.format.specs.Decode.{zeroState, Called, fragmentCall, moves, called}
 use Rattle.format.specs.Encode.{tooMany, encodeCall}
 use Rattle.format.specs.Inspect.{decodeCall}
 use Rattle.format.specs.Tests.{sameBytes, sameSamples, isState, gives, refuses, ample, settings, encodes, encodeRefused, inspects, inspectRefused, decodes, plays}
@@ -167,7 +167,8 @@ orders =
     && refuses 7 (4 ∷ []) (fragmentCall 4 H zeroState [] 100)
     && refuses 14 [] (fragmentCall 2 H (record { predictor = pos 0; index = 89 }) [] 1)
 
--- a call that is refused changes neither output nor state; one that is not fills the front; an index byte above 88 counts as 88
+-- a call that is refused changes neither output nor state; one that is not fills the front; an index byte above 88 counts as 88. Only
+-- results of versions 1, 2 move the state
 abbrev untouched : Called → Bool
 untouched r = sameSamples (r .output) (pos 1 ∷ pos 2 ∷ []) && isState (r .state) (pos 5) 3
 
@@ -181,6 +182,8 @@ calls =
     untouched (called 9 H state (replicate 34 0) out) && untouched (called 2 H state (replicate 34 0) out)
     && sameSamples (called 2 H state (255 ∷ 7 ∷ replicate 31 0) out .output) (pos 23 ∷ pos 25 ∷ [])
     && same (called 3 H state (255 ∷ 200 ∷ 7 ∷ replicate 31 0) out) (called 3 H state (255 ∷ 88 ∷ 7 ∷ replicate 31 0) out)
+    && moves 1 (fragmentCall 1 H state (replicate 33 0) 2) && moves 2 (fragmentCall 2 H state (replicate 33 0) 2)
+    && not (moves 3 (fragmentCall 3 H state (replicate 34 0) 2)) && not (moves 2 (fragmentCall 2 H state (replicate 34 0) 2))
 
 -- volume 0 with any codes is accepted, and gives silence; in versions 1, 2 the state moves on, even where v is 0
 abbrev silent : Bool

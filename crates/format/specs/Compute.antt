@@ -8,7 +8,7 @@ use Rattle.format.specs.Tables.{steps, hIndexAdjust, lIndexAdjust, lLeve
 use Rattle.format.specs.Layout.{knownVersion, channelsFit, variantOf, headerBytes, headerOf, frames, count, fragmentAtPlace}
 use Rattle.format.specs.Step.{stepAt, hSize, lSize, levelOf, difference, unclampedPredictor, unclampedIndex, stepped}
 use Rattle.format.specs.Gain.{pregained, peak, normalised, outputGain}
-use Rattle.format.specs.Decode.{fragmentStart, codesOf, after, decodedFragment, stateBefore, channelSample, decoded, fragmentFits, stateFits, fragmentCall, stateLeft, called}
+use Rattle.format.specs.Decode.{fragmentStart, codesOf, after, decodedFragment, stateBefore, channelSample, decoded, fragmentFits, stateFits, fragmentCall, stateLeft, moves, called}
 use Rattle.format.specs.Encode.{hCode, lCode, trialStep, trialTo, bestTrial, fragmentBytes, encodedFragment, channel, headerWritten, fragmentFor, encoded, tooMany, encodeCall}
 use Rattle.format.specs.Inspect.{sameLetters, fieldChecks, headerChecks, indexTooHigh, unusedZero, fragmentChecks, inspected, decodeCall}
 use Rattle.format.specs.Tests.{gives, refuses}
@@ -18,6 +18,6 @@ unfolding refuseIf need andThen onResult inOrder outputAfter tabulate joined lea
     clampTo steps hIndexAdjust lIndexAdjust lLevels lPlusLevels legacyLPlusLevels knownVersion channelsFit variantOf headerBytes headerOf frames
     count fragmentAtPlace stepAt hSize lSize levelOf difference unclampedPredictor unclampedIndex stepped pregained peak normalised
     outputGain fragmentStart codesOf after decodedFragment stateBefore channelSample decoded fragmentFits stateFits fragmentCall
-    stateLeft called hCode lCode trialStep trialTo bestTrial fragmentBytes encodedFragment channel headerWritten fragmentFor encoded
+    stateLeft moves called hCode lCode trialStep trialTo bestTrial fragmentBytes encodedFragment channel headerWritten fragmentFor encoded
     tooMany encodeCall sameLetters fieldChecks headerChecks indexTooHigh unusedZero fragmentChecks inspected decodeCall
 computing = tt
