@@ -1,5 +1,6 @@
 // The state after the code that the encoder chooses, without the code: for H by what is left of the distance, for L and L+ by three
 // comparisons instead of eight candidates.
+#![tactic(auto)]
 ghost use Rattle.std.specs.Prelude.{◌≡◌, ◌+◌, ◌-◌, ◌<◌, ◌≤◌, min, if◌then◌else◌};
 ghost use Rattle.std.specs.Int.Signed.{mag};
 ghost use Rattle.lists.specs.Lists.{tabulate};
@@ -96,7 +97,7 @@ fn h_next(steps: &[i32; 89], state: State, input: i32) -> State
 }
 
 // The sizes of the differences of L or L+, by the code's two low bits.
-#[derive(Drop)]
+#[derive(Clone, Copy)]
 pub struct Sizes {
     pub a: u32,
     pub b: u32,

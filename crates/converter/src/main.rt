@@ -1,5 +1,6 @@
 // The converter: reads a variant byte, a gain byte and a WAV file from standard input and writes the SQV4 stream to standard output, or
 // the line of a refusal. commands::convert says what is written.
+#![tactic(auto)]
 use libc::{STDIN_FILENO, STDOUT_FILENO};
 
 fn main() {

@@ -1,4 +1,5 @@
 // The encoder of whole streams: the header, and each frame's fragments, left before right.
+#![tactic(auto)]
 ghost use Rattle.std.specs.Prelude.{◌≡◌, ◌++◌, ◌+◌, ◌-◌, ◌*◌, ◌/◌, ◌<◌, ◌≤◌, min, pos, length, take, drop, get_or};
 ghost use Rattle.lists.specs.Lists.{tabulate};
 ghost use Rattle.format.specs.Tables as tables;
@@ -58,7 +59,7 @@ fn put_header(out: &mut [u8], h: Header)
     ensures { out.new ≡ header_bytes h ++ drop 16 out.old }
 {
     let header = header_bytes(h);
-    bytes::copy(&header, out);
+    out[..16].copy_from_slice(&header);
 }
 
 // The samples of a frame that starts at `first`.

@@ -1,5 +1,6 @@
 // The types of SQV4: variant, decoder state, header, the encoder's settings, and what the calls answer. The rules of 01 stand as
 // definitions in specs/, and what is proved of them is listed in proofs/Claims.antt.
+#![tactic(auto)]
 ghost use Rattle.std.specs.Prelude.{◌≡◌, ◌≤◌, [], ◌∷◌};
 ghost use Rattle.format.specs.Layout.{known_version, bits, payload_bytes, fragment_size, frame_samples, variant_byte, variant_of};
 ghost use Rattle.format.specs.Decode.{fragment_start};
@@ -9,7 +10,7 @@ ghost use Rattle.format.specs.Answers.{number_of, values_of, given, variant_read
 pub const VERSION: u8 = 3;
 
 // A stream's variant: codes of 4 bits (H) or of 3 bits (L, L+).
-#[derive(Drop)]
+#[derive(Clone, Copy)]
 pub enum Variant {
     H,
     L,
@@ -115,7 +116,7 @@ pub fn fragment_size(version: u8, variant: Variant) -> usize
 
 // A channel's decoder state, laid out for C.
 #[repr(C)]
-#[derive(Drop)]
+#[derive(Clone, Copy)]
 pub struct State {
     pub predictor: i32,
     pub index: usize,
@@ -143,7 +144,7 @@ impl State {
 }
 
 // What a stream's header says: the rate, and the samples of each channel.
-#[derive(Drop)]
+#[derive(Clone, Copy)]
 pub struct Header {
     pub version: u8,
     pub variant: Variant,
@@ -153,14 +154,14 @@ pub struct Header {
 }
 
 // What a caller of the encoder picks: the variant, and the pre-gain of which 255 leaves the samples as they are.
-#[derive(Drop)]
+#[derive(Clone, Copy)]
 pub struct Settings {
     pub variant: Variant,
     pub gain: u8,
 }
 
 // Why a call refuses. specs/Answers.antt gives each case its number and returned numbers.
-#[derive(Drop)]
+#[derive(Clone, Copy)]
 pub enum Error {
     InvalidChannels(u8),
     ZeroSampleRate,
@@ -180,7 +181,7 @@ pub enum Error {
 }
 
 // The numbers that a refusal returns: `count` of them, 0 in the places of the others.
-#[derive(Drop)]
+#[derive(Clone, Copy)]
 pub struct Values {
     pub count: usize,
     pub first: usize,
@@ -265,40 +266,40 @@ impl Error {
 }
 
 // What a variant byte answers.
-#[derive(Drop)]
+#[derive(Clone, Copy)]
 pub enum VariantRead {
     Known(Variant),
     Refused(Error),
 }
 
 // What inspection answers.
-#[derive(Drop)]
+#[derive(Clone, Copy)]
 pub enum Inspected {
     Accepted(Header),
     Refused(Error),
 }
 
 // What the encoder answers: how many bytes it wrote.
-#[derive(Drop)]
+#[derive(Clone, Copy)]
 pub struct Encoding {
     pub length: usize,
 }
 
-#[derive(Drop)]
+#[derive(Clone, Copy)]
 pub enum Encoded {
     Written(Encoding),
     Refused(Error),
 }
 
 // What the whole-stream decoder answers: the header of the stream whose samples it wrote.
-#[derive(Drop)]
+#[derive(Clone, Copy)]
 pub enum Decoded {
     Filled(Header),
     Refused(Error),
 }
 
 // What the fragment decoder answers: how many samples it wrote.
-#[derive(Drop)]
+#[derive(Clone, Copy)]
 pub enum FragmentDecoded {
     Filled(usize),
     Refused(Error),

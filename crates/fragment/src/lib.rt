@@ -1,4 +1,5 @@
 // The public decoder for one fragment, by value: its checks.
+#![tactic(auto)]
 ghost use Rattle.std.specs.Prelude.{◌≡◌};
 ghost use Rattle.format.specs.Decode.{fragment_fits, state_fits};
 ghost use Rattle.format.specs.Answers.{AsCalled};
@@ -33,7 +34,7 @@ fn state_fits(version: u8, state: State) -> bool
 }
 
 // What the decoder of one fragment gives: its answer, and the channel's state after the call.
-#[derive(Drop)]
+#[derive(Clone, Copy)]
 pub struct Returned {
     pub answer: FragmentDecoded,
     pub state: State,

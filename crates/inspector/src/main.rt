@@ -1,5 +1,6 @@
 // The inspector: reads an SQV4 stream from standard input and writes its report to standard output, or the line of a refusal.
 // commands::report says what is written.
+#![tactic(auto)]
 use libc::{STDIN_FILENO, STDOUT_FILENO};
 
 fn main() {

@@ -1,6 +1,7 @@
 // The state after a code by tables instead of arithmetic, for decoding whole streams: an index leads to the row of the next one, and
 // a predictor is kept as its depth below 32767, which needs no signed number. That this is the step of the definitions is shown in
 // proofs/Steps.
+#![tactic(auto)]
 ghost use Rattle.std.specs.Prelude.{◌≡◌, ◌+◌, ◌-◌, ◌/◌, ◌<◌, ◌≤◌, ◌^◌, length, get_or};
 ghost use Rattle.format.specs.Layout.{bits};
 ghost use Rattle.format.specs.Decode.{InRange};
@@ -11,7 +12,7 @@ use format::{State, Variant};
 pub mod tables;
 
 // A state as the tables take it: how far the predictor lies below 32767, and where the row of the index begins.
-#[derive(Drop)]
+#[derive(Clone, Copy)]
 pub struct Point {
     pub depth: u32,
     pub at: usize,

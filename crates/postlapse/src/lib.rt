@@ -1,4 +1,5 @@
 // The interface for C and Rust: the public calls of the codec and of WAV reading and writing under plain names, with answers by value.
+#![tactic(auto)]
 ghost use Rattle.std.specs.Prelude.{◌≡◌, length};
 ghost use Rattle.outcome.specs.Outcome.{result};
 ghost use Rattle.format.specs.Answers.{refusal, inspected_of, encoded_of, decoded_of, fragment_decoded_of};
@@ -19,7 +20,7 @@ use wav_format::{WaveError, WaveFilled, WaveRead};
 // A count, or a refusal: 0 and how many bytes or samples were written; or the number in 01's table and its returned numbers, 0 where
 // there are none.
 #[repr(C)]
-#[derive(Drop)]
+#[derive(Clone, Copy)]
 pub struct Answer {
     pub refusal: usize,
     pub first: usize,
@@ -28,7 +29,7 @@ pub struct Answer {
 
 // A header, or a refusal as in `Answer`. What the other would fill is 0.
 #[repr(C)]
-#[derive(Drop)]
+#[derive(Clone, Copy)]
 pub struct HeaderAnswer {
     pub refusal: usize,
     pub first: usize,
@@ -42,7 +43,7 @@ pub struct HeaderAnswer {
 
 // What a WAV file says, and where in it the sample bytes lie; or the number of a refusal, and zeros.
 #[repr(C)]
-#[derive(Drop)]
+#[derive(Clone, Copy)]
 pub struct WaveAnswer {
     pub refusal: usize,
     pub channels: u16,
@@ -53,7 +54,7 @@ pub struct WaveAnswer {
 
 // What decoding one fragment gives: a count or a refusal as in `Answer`, and the channel's state after the call.
 #[repr(C)]
-#[derive(Drop)]
+#[derive(Clone, Copy)]
 pub struct FragmentAnswer {
     pub refusal: usize,
     pub first: usize,
@@ -256,7 +257,7 @@ fn moves(version: u8, answer: FragmentDecoded) -> bool
 }
 
 // What decoding one fragment comes to: the answer, the channel's state after the call, and whether the call changes that state.
-#[derive(Drop)]
+#[derive(Clone, Copy)]
 struct Played {
     answer: Answer,
     state: State,
@@ -339,7 +340,7 @@ pub extern "C" fn postlapse_decode_fragment_lent(
 }
 
 // What the lent form gives where a state of the caller's own is lent: its answer, and the state that comes back.
-#[derive(Drop)]
+#[derive(Clone, Copy)]
 pub struct Returned {
     pub answer: Answer,
     pub state: State,

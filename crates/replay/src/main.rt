@@ -3,6 +3,7 @@
 // those of IMA ADPCM gave. The file wrong has questions of every kind with answers that are wrong in one byte, all of which must differ.
 // oracle/README.md has the layout. Each question is asked of the proved functions, and the answer's bytes are compared. The program prints
 // for each file how many answers there were and how many differ.
+#![tactic(auto)]
 use format::State;
 use libc::STDOUT_FILENO;
 use postlapse::{Answer, HeaderAnswer, WaveAnswer};
@@ -13,7 +14,7 @@ const SAMPLES: usize = 1024;
 const BYTES: usize = 2092;
 
 // What one turn found: the end of the list, an answer, one that differs, or a list that breaks off.
-#[derive(Drop)]
+#[derive(Clone, Copy)]
 enum Turn {
     End,
     Same,
@@ -91,7 +92,7 @@ fn put_samples(out: &mut [u8], at: usize, s: &[i16]) -> usize {
 }
 
 // Where the numbers of an answer end, and how many places the call says that it has filled.
-#[derive(Drop)]
+#[derive(Clone, Copy)]
 struct Told {
     at: usize,
     count: usize,
@@ -416,7 +417,7 @@ fn replay_one(fd: i32) -> Turn {
 }
 
 // What the whole list gave.
-#[derive(Drop)]
+#[derive(Clone, Copy)]
 struct Tally {
     answers: u32,
     differ: u32,

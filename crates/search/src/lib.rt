@@ -1,4 +1,5 @@
 // Which start index a fragment gets: the sum of the trial from each start, given up once it can no longer win, and the least.
+#![tactic(auto)]
 ghost use Rattle.std.specs.Prelude.{◌≡◌, map, ◌+◌, ◌/◌, ◌%◌, ◌<◌, ◌≤◌, ◌^◌, true, nat_abs, ◌-ℤ◌, length, take};
 ghost use Rattle.std.specs.Int.Signed.{mag};
 ghost use Rattle.lists.specs.Lists.{tabulate};
@@ -24,7 +25,7 @@ const NO_MARK: u64 = 18446744073709551615;
 const BOUNDS: u8 = 4;
 
 // The start index whose trial has the least sum, the lowest at equality, and that sum.
-#[derive(Drop)]
+#[derive(Clone, Copy)]
 pub struct Found {
     pub index: u8,
     pub sum: u64,

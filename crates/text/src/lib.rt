@@ -1,9 +1,10 @@
 // Lines of text for the programs: made of words and decimal numbers, and put into a lent output.
+#![tactic(auto)]
 ghost use Rattle.std.specs.Prelude.{◌≡◌, [], ◌++◌, ◌+◌, ◌≤◌, length, take};
 ghost use Rattle.text.specs.Text.{decimal, text_of, Extended, Put};
 
 // A line so far: the first `count` of its bytes.
-#[derive(Drop)]
+#[derive(Clone, Copy)]
 pub struct Line {
     pub bytes: [u8; 128],
     pub count: usize,
@@ -16,7 +17,7 @@ fn extended(bytes: [u8; 128], at: usize, piece: &[u8]) -> [u8; 128]
 {
     let mut r = bytes;
     let end = at + piece.len();
-    bytes::copy(piece, &mut r[at..end]);
+    r[at..end].copy_from_slice(piece);
     r
 }
 
@@ -69,7 +70,7 @@ fn put(out: &mut [u8], at: usize, bytes: [u8; 128], n: usize) -> usize
     ensures { Put out.old at (take n bytes) out.new result × (result ≡ at + n) }
 {
     let end = at + n;
-    bytes::copy(&bytes[..n], &mut out[at..end]);
+    out[at..end].copy_from_slice(&bytes[..n]);
     end
 }
 

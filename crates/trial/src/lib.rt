@@ -1,4 +1,5 @@
 // Encoding one fragment: the trial from one start index, the best of all, which `search` finds, and the fragment's bytes.
+#![tactic(auto)]
 ghost use Rattle.std.specs.Prelude.{◌≡◌, ◌∷◌, map, ℕ, ◌-◌, ◌<◌, ◌≤◌, ◌^◌, length, get_or, take};
 ghost use Rattle.lists.specs.Lists.{tabulate};
 ghost use Rattle.digits.specs.Digits.{digits, packed};
@@ -11,14 +12,14 @@ ghost use Rattle.advance.specs.Advance.{size_entry};
 use format::{Settings, State};
 
 // A trial's codes, one for each sample from place 0 on, and the sum of its squared distances.
-#[derive(Drop)]
+#[derive(Clone, Copy)]
 pub struct Trial {
     pub codes: [u8; 63],
     pub sum: u64,
 }
 
 // The best trial, with its start index.
-#[derive(Drop)]
+#[derive(Clone, Copy)]
 pub struct Best {
     pub index: u8,
     pub codes: [u8; 63],

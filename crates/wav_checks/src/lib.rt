@@ -1,4 +1,5 @@
 // The checks on the chunks of a WAV file: those of plain reading, after the walk, and those of strict reading.
+#![tactic(auto)]
 ghost use Rattle.std.specs.Prelude.{◌≡◌, ◌≤◌};
 ghost use Rattle.wav_format.specs.Wave.{pcm16, consistent, check_format, check_data, check_chunks, strict_size, check_strict};
 ghost use Rattle.wav_format.specs.Answers.{read_of};
@@ -7,7 +8,7 @@ ghost use Rattle.wav_checks.specs.Frames.{frame_of};
 use wav_format::{Chunks, Wave, WaveError, WaveRead};
 
 // What the fields of the fmt chunk come to: the bytes of a frame, or why they are refused.
-#[derive(Drop)]
+#[derive(Clone, Copy)]
 enum Checked {
     Frame(usize),
     Bad(WaveError),

@@ -1,4 +1,5 @@
 // The chunks of a RIFF/WAVE file: one chunk, and the walk over all of them.
+#![tactic(auto)]
 ghost use Rattle.std.specs.Prelude.{◌≡◌, ◌+◌, ◌≤◌, length};
 ghost use Rattle.wav_format.specs.Wave.{letters_at, format_at, chunk_step, first_chunk, walk};
 ghost use Rattle.wav_chunks.specs.Steps.{step_of};
@@ -6,7 +7,7 @@ ghost use Rattle.wav_chunks.specs.Steps.{step_of};
 use wav_format::{Chunks, Format, Part, WaveError};
 
 // What one chunk, or the walk over all of them, comes to: the chunks up to a byte, or why the file is refused.
-#[derive(Drop)]
+#[derive(Clone, Copy)]
 pub enum Step {
     Next(Chunks),
     Stop(WaveError),

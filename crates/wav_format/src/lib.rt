@@ -1,11 +1,12 @@
 // The types of WAV files: refusals, chunks, what a file says, and what the calls answer. This room is to WAV what `format` is to SQV4: the
 // rules of reading stand as definitions in specs/, and what is proved of them in proofs/.
+#![tactic(auto)]
 ghost use Rattle.std.specs.Prelude.{◌≡◌};
 ghost use Rattle.wav_format.specs.Wave.{one_or_two};
 ghost use Rattle.wav_format.specs.Answers.{number_of};
 
 // Why a WAV call refuses. specs/Answers.antt gives each case its number and returned numbers.
-#[derive(Drop)]
+#[derive(Clone, Copy)]
 pub enum WaveError {
     NotWave,
     RiffEnd,
@@ -64,14 +65,14 @@ impl WaveError {
 }
 
 // A part of a file: the contents of a chunk.
-#[derive(Drop)]
+#[derive(Clone, Copy)]
 pub struct Part {
     pub start: usize,
     pub size: usize,
 }
 
 // The fmt chunk, where one was found.
-#[derive(Drop)]
+#[derive(Clone, Copy)]
 pub struct Format {
     pub found: bool,
     pub part: Part,
@@ -84,7 +85,7 @@ pub struct Format {
 }
 
 // What the chunks up to byte `at` hold: the fmt chunk, and the data chunk's contents, the samples, where `found`.
-#[derive(Drop)]
+#[derive(Clone, Copy)]
 pub struct Chunks {
     pub at: usize,
     pub format: Format,
@@ -93,7 +94,7 @@ pub struct Chunks {
 }
 
 // What a WAV file says, and where its samples lie. `format` and `end`, the RIFF end, are for strict reading.
-#[derive(Drop)]
+#[derive(Clone, Copy)]
 pub struct Wave {
     pub channels: u16,
     pub rate: u32,
@@ -102,14 +103,14 @@ pub struct Wave {
     pub end: usize,
 }
 
-#[derive(Drop)]
+#[derive(Clone, Copy)]
 pub enum WaveRead {
     Accepted(Wave),
     Refused(WaveError),
 }
 
 // What reading the samples answers, and what the writer answers: how many samples, or bytes, were written.
-#[derive(Drop)]
+#[derive(Clone, Copy)]
 pub enum WaveFilled {
     Filled(usize),
     Refused(WaveError),

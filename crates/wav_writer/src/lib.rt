@@ -1,4 +1,5 @@
 // Writing of WAV files: a 44-byte header, then the samples.
+#![tactic(auto)]
 ghost use Rattle.std.specs.Prelude.{◌≡◌, ◌++◌, ◌+◌, ◌*◌, ◌≤◌, length, drop};
 ghost use Rattle.wav_format.specs.Wave.{frame_bytes};
 ghost use Rattle.wav_writer.specs.Writer.{wave_header, sample_bytes, AsWritten};
@@ -99,7 +100,7 @@ pub fn write_pcm16_wave(channels: u8, rate: u32, samples: &[i16], out: &mut [u8]
         return WaveFilled::Refused(WaveError::OutputTooShort(needed));
     }
     let header = wave_header(channels, rate, byte_rate as u32, size as u32);
-    bytes::copy(&header, out);
+    out[..44].copy_from_slice(&header);
     put_samples(samples, &mut out[44..]);
     WaveFilled::Filled(needed)
 }
