@@ -2,6 +2,7 @@
 // little-endian numbers read from bytes and written to them. The definitions stand in specs/Digits, the laws that callers cite in
 // proofs/Laws, and that of a loop from one width to another in proofs/Regrouping.
 #![tactic(auto)]
+
 ghost use Rattle.std.specs.Prelude.{◌≡◌, ℕ, ◌+◌, ◌*◌, ◌^◌, ◌≤◌, ◌<◌, ◌++◌, length, get_or, take, drop};
 ghost use Rattle.digits.specs.Digits.{number, digits, stored, field, packed, unpacked, code_at, rest_zero};
 

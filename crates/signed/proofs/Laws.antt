@@ -97,7 +97,7 @@ pub back32 : (z : ℤ) → mag z < 2 ^ 31 → to_z w32 (of_z w32 z) ≡ z
 back32 z h = to_z-of_z (sfits32 h)
 
 pub back16 : (z : ℤ) → mag z < 2 ^ 15 → to_z w16 (of_z w16 z) ≡ z
-back16 z h = to_z-of_z (record { sfits = h })
+back16 z h = to_z-of_z {w = w16} (record { sfits = h })
 
 -- of a cast from an unsigned type
 pub up32 : (n : ℕ) → n < 2 ^ 31 → to_z w32 n ≡ pos n

@@ -1,6 +1,7 @@
 // Signed numbers by sign and magnitude, the clamps, and the two bytes of a 16-bit sample: the only place with signed
 // operators.
 #![tactic(auto)]
+
 ghost use Rattle.std.specs.Prelude.{◌≡◌, ◌+◌, ◌-◌, ◌*◌, ◌<◌, ◌≤◌, ◌^◌, pos, nat_abs, ◌+ℤ◌, ◌-ℤ◌};
 ghost use Rattle.std.specs.Int.Signed.{mag};
 ghost use Rattle.digits.specs.Digits.{stored};
