@@ -1,6 +1,7 @@
 // The types of SQV4: variant, decoder state, header, the encoder's settings, and what the calls answer. The rules of 01 stand as
 // definitions in specs/, and what is proved of them is listed in proofs/Claims.antt.
 #![tactic(auto)]
+
 ghost use Rattle.std.specs.Prelude.{◌≡◌, ◌≤◌, [], ◌∷◌};
 ghost use Rattle.format.specs.Layout.{known_version, bits, payload_bytes, fragment_size, frame_samples, variant_byte, variant_of};
 ghost use Rattle.format.specs.Decode.{fragment_start};

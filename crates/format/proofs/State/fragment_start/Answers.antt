@@ -5,19 +5,15 @@ use native.Mathlib.Omega.{arith}
 use lib.IntN.{pos}
 use Rattle.format.specs.Decode.{fragment_start}
 use Rattle.format.specs.declared.State.{State}
-use Rattle.format.proofs.State.fragment_start.Statement.{statement}
-use Rattle.format.proofs.State.fragment_start.Tie as tie
+use Rattle.format.proofs.State.fragment_start.Goals as goal
 
 from : ℕ → State
 from index = record { predictor = pos 0; index = index }
 
-returns : tie.Need-returns
+pub returns-then-index-lt-MAX_STEP_INDEX : goal.returns-then-index-lt-MAX_STEP_INDEX
 unfolding fragment_start from
-returns c = ap from (omega arith)
+returns-then-index-lt-MAX_STEP_INDEX c = ap from (omega arith)
 
-returns-2 : tie.Need-returns-2
+pub returns-else-index-lt-MAX_STEP_INDEX : goal.returns-else-index-lt-MAX_STEP_INDEX
 unfolding fragment_start from
-returns-2 c = ap from (omega arith)
-
-pub fragment-start-spec : {M : Type 1} → statement M
-fragment-start-spec = tie.close (tie.spec returns returns-2)
+returns-else-index-lt-MAX_STEP_INDEX c = ap from (omega arith)
