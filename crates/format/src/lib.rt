@@ -213,6 +213,7 @@ impl Values {
 
 impl Error {
     // The number in 01's table.
+    #[tactic(auto, unfolding(crate::specs::Answers::number_of))]
     pub fn number(self) -> u8
         ensures { result ≡ number_of self }
     {
@@ -239,6 +240,7 @@ impl Error {
     }
 
     // The numbers returned with it.
+    #[tactic(auto, unfolding(crate::specs::Answers::values_of))]
     pub fn values(self) -> Values
         ensures { result ≡ given (values_of self) }
     {

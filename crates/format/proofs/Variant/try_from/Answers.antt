@@ -5,6 +5,7 @@ use Rattle.format.specs.Layout.{variant_of}
 use Rattle.format.specs.Answers.{number_of, values_of, variant_read_of}
 use Rattle.format.specs.declared.Error.TheVariants.{InvalidVariant}
 use Rattle.format.specs.declared.VariantRead.TheVariants.{Refused}
+use borrow.Author.Rules.{rules}
 use Rattle.format.proofs.Variant.try_from.Goals as goal
 
 above : (b : ℕ) → (b ≡ 0 → ⊥) → (b ≡ 1 → ⊥) → (b ≡ 2 → ⊥) → variant_read_of (Refused (InvalidVariant b)) ≡ variant_of b
@@ -14,17 +15,17 @@ above (suc zero) h k l = absurd (k refl)
 above (suc (suc zero)) h k l = absurd (l refl)
 above (suc (suc (suc b))) h k l = refl
 
+pub returns-in_default : goal.returns-in_default
+returns-in_default c = above _ (search rules) (search rules) (search rules)
+
 pub returns-in-0 : goal.returns-in-0
 unfolding variant_read_of variant_of
-returns-in-0 c = rw c.in_default.keys1
+returns-in-0 c = rw c.in-0.is
 
 pub returns-in-1 : goal.returns-in-1
 unfolding variant_read_of variant_of
-returns-in-1 c = rw c.in_default.keys2
+returns-in-1 c = rw c.in-1.is
 
 pub returns-in-2 : goal.returns-in-2
 unfolding variant_read_of variant_of
-returns-in-2 c = rw c.in_default.keys3
-
-pub returns-in_default : goal.returns-in_default
-returns-in_default c = above _ c.in_default.rest.0.0.1 c.in_default.rest.0.1 c.in_default.rest.1
+returns-in-2 c = rw c.in-2.is
