@@ -1,6 +1,7 @@
 // The types of WAV files: refusals, chunks, what a file says, and what the calls answer. This room is to WAV what `format` is to SQV4: the
 // rules of reading stand as definitions in specs/, and what is proved of them in proofs/.
 #![tactic(auto)]
+
 ghost use Rattle.std.specs.Prelude.{◌≡◌};
 ghost use Rattle.wav_format.specs.Wave.{one_or_two};
 ghost use Rattle.wav_format.specs.Answers.{number_of};
@@ -34,6 +35,7 @@ pub enum WaveError {
 
 impl WaveError {
     // The number in 01's table.
+    #[tactic(auto, unfolding(crate::specs::Answers::number_of))]
     pub fn number(self) -> u8
         ensures { result ≡ number_of self }
     {
