@@ -1,5 +1,6 @@
 // One ADPCM step: the tables, the difference and the index adjustment of a code, and the state after it.
 #![tactic(auto)]
+
 ghost use Rattle.std.specs.Prelude.{◌≡◌, ◌<◌, ◌≤◌, ◌^◌, nat_abs};
 ghost use Rattle.signed.specs.Signed.{with_sign};
 ghost use Rattle.format.specs.Tables as tables;

@@ -5,8 +5,6 @@ use mathlib.Core.List.{List, [], ◌∷◌}
 use Prim.Native.Nat.{ℕ, ◌+◌, ◌-◌, ◌*◌, ◌/◌, ◌≤◌, ◌<◌, min}
 use native.Mathlib.Omega.{arith}
 use native.Mathlib.Nat.{mul-le-mul_left, mul-le-mul_right, le-div_iff_mul-le, div-lt_iff_lt-mul, div-mul-le_self}
-use types.Run.{OneOf, miss}
-use denote.Enum.Declared.{tag_of}
 use lib.Dec.{eqb}
 use borrow.Author.Tests.{eqb-true}
 use lib.ListN.{length, length-take, length-drop}
@@ -15,7 +13,6 @@ use Rattle.format.specs.Layout.{anew, channels_fit, bits, payload_bytes, header_
 use Rattle.format.specs.declared.Variant.{Variant}
 use Rattle.format.specs.declared.Variant.TheVariants.{H, L, LPlus}
 use Rattle.format.specs.declared.Header.{Header}
-use Rattle.format.specs.contracts.Variant.{the_type}
 use Rattle.digits.specs.Digits.{digits}
 
 pub bits_some : (v : Variant) → 0 < bits v
@@ -29,8 +26,8 @@ bits_few L = omega arith
 bits_few LPlus = omega arith
 
 -- what `if let Variant::H = variant { .. } else { .. }` knows in its second arm
-pub three_bits : (variant : Variant) → OneOf (1 ∷ 2 ∷ []) (tag_of the_type variant) → bits variant ≡ 3
-three_bits H o = absurd (miss (1 ∷ 2 ∷ []) 0 tt o)
+pub three_bits : (variant : Variant) → (variant ≡ H → ⊥) → bits variant ≡ 3
+three_bits H o = absurd (o refl)
 three_bits L o = refl
 three_bits LPlus o = refl
 
