@@ -1,5 +1,6 @@
 // The chunks of a RIFF/WAVE file: one chunk, and the walk over all of them.
 #![tactic(auto)]
+
 ghost use Rattle.std.specs.Prelude.{◌≡◌, ◌+◌, ◌≤◌, length};
 ghost use Rattle.wav_format.specs.Wave.{letters_at, format_at, chunk_step, first_chunk, walk};
 ghost use Rattle.wav_chunks.specs.Steps.{step_of};
