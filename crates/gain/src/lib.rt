@@ -1,6 +1,7 @@
 // The gains of a sample: pre-gain, the volume of a fragment, normalising to full scale, and output gain. The definitions stand in
 // format's specs/Gain, the ranges of the results in proofs/Laws.
 #![tactic(auto)]
+
 ghost use Rattle.std.specs.Prelude.{◌≡◌, ◌+◌, ◌*◌, ◌/◌, ◌<◌, ◌≤◌, max, length, unsigned_abs};
 ghost use Rattle.std.specs.Int.Signed.{mag};
 ghost use Rattle.signed.specs.Signed.{is_neg, with_sign, raised};
