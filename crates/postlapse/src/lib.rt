@@ -1,7 +1,8 @@
 // The interface for C and Rust: the public calls of the codec and of WAV reading and writing under plain names, with answers by value.
 #![tactic(auto)]
+
 ghost use Rattle.std.specs.Prelude.{◌≡◌, length};
-ghost use Rattle.outcome.specs.Outcome.{result};
+ghost use Rattle.outcome.specs.Outcome as outcome;
 ghost use Rattle.format.specs.Answers.{refusal, inspected_of, encoded_of, decoded_of, fragment_decoded_of};
 ghost use Rattle.format.specs.Decode.{moves};
 ghost use Rattle.format.specs.Inspect.{inspected, decode_call};
@@ -66,7 +67,7 @@ pub struct FragmentAnswer {
 
 // A refusal of the codec.
 fn refused_answer(error: Error) -> Answer
-    ensures* { λ r. ⌜ r ≡ answer_of (refusal error) ⌝ }
+    ensures { result ≡ answer_of (refusal error) }
 {
     let number = error.number() as usize;
     let values = error.values();
@@ -78,7 +79,7 @@ fn refused_answer(error: Error) -> Answer
 }
 
 fn written_answer(count: usize) -> Answer
-    ensures* { λ r. ⌜ r ≡ answer_of (result count) ⌝ }
+    ensures { result ≡ answer_of (outcome.result count) }
 {
     Answer {
         refusal: 0,
@@ -88,7 +89,7 @@ fn written_answer(count: usize) -> Answer
 }
 
 fn encoded_answer(answer: Encoded) -> Answer
-    ensures* { λ r. ⌜ r ≡ answer_of (encoded_of answer) ⌝ }
+    ensures { result ≡ answer_of (encoded_of answer) }
 {
     match answer {
         Encoded::Written(w) => written_answer(w.length),
@@ -97,7 +98,7 @@ fn encoded_answer(answer: Encoded) -> Answer
 }
 
 fn header_answer(h: Header) -> HeaderAnswer
-    ensures* { λ r. ⌜ r ≡ header_answer_of (result h) ⌝ }
+    ensures { result ≡ header_answer_of (outcome.result h) }
 {
     let variant = h.variant;
     HeaderAnswer {
@@ -113,7 +114,7 @@ fn header_answer(h: Header) -> HeaderAnswer
 }
 
 fn refused_header(error: Error) -> HeaderAnswer
-    ensures* { λ r. ⌜ r ≡ header_answer_of (refusal error) ⌝ }
+    ensures { result ≡ header_answer_of (refusal error) }
 {
     let a = refused_answer(error);
     HeaderAnswer {
@@ -129,7 +130,7 @@ fn refused_header(error: Error) -> HeaderAnswer
 }
 
 fn inspected_answer(answer: Inspected) -> HeaderAnswer
-    ensures* { λ r. ⌜ r ≡ header_answer_of (inspected_of answer) ⌝ }
+    ensures { result ≡ header_answer_of (inspected_of answer) }
 {
     match answer {
         Inspected::Accepted(h) => header_answer(h),
@@ -138,7 +139,7 @@ fn inspected_answer(answer: Inspected) -> HeaderAnswer
 }
 
 fn decoded_answer(answer: Decoded) -> HeaderAnswer
-    ensures* { λ r. ⌜ r ≡ header_answer_of (decoded_of answer) ⌝ }
+    ensures { result ≡ header_answer_of (decoded_of answer) }
 {
     match answer {
         Decoded::Filled(h) => header_answer(h),
@@ -147,7 +148,7 @@ fn decoded_answer(answer: Decoded) -> HeaderAnswer
 }
 
 fn played_answer(answer: FragmentDecoded) -> Answer
-    ensures* { λ r. ⌜ r ≡ answer_of (fragment_decoded_of answer) ⌝ }
+    ensures { result ≡ answer_of (fragment_decoded_of answer) }
 {
     match answer {
         FragmentDecoded::Filled(n) => written_answer(n),
@@ -156,7 +157,7 @@ fn played_answer(answer: FragmentDecoded) -> Answer
 }
 
 fn read_answer(answer: WaveRead) -> WaveAnswer
-    ensures* { λ r. ⌜ r ≡ wave_answer_of (wave.read_of answer) ⌝ }
+    ensures { result ≡ wave_answer_of (wave.read_of answer) }
 {
     match answer {
         WaveRead::Accepted(w) => {
@@ -181,7 +182,7 @@ fn read_answer(answer: WaveRead) -> WaveAnswer
 
 // A refusal of a WAV call. Only 13 returns a number.
 fn refused_wave(error: WaveError) -> Answer
-    ensures* { λ r. ⌜ r ≡ answer_of (wave.refusal error) ⌝ }
+    ensures { result ≡ answer_of (wave.refusal error) }
 {
     match error {
         WaveError::OutputTooShort(needed) => Answer {
@@ -198,7 +199,7 @@ fn refused_wave(error: WaveError) -> Answer
 }
 
 fn filled_answer(answer: WaveFilled) -> Answer
-    ensures* { λ r. ⌜ r ≡ answer_of (wave.filled_of answer) ⌝ }
+    ensures { result ≡ answer_of (wave.filled_of answer) }
 {
     match answer {
         WaveFilled::Filled(n) => written_answer(n),
@@ -209,8 +210,7 @@ fn filled_answer(answer: WaveFilled) -> Answer
 // ---- the calls
 
 // Encodes interleaved samples into `out`, as a stream of version 3, and answers its length.
-#[unsafe(no_mangle)]
-pub extern "C" fn postlapse_encode(
+pub fn postlapse_encode(
     pcm: &[i16],
     channels: u8,
     rate: u32,
@@ -218,8 +218,8 @@ pub extern "C" fn postlapse_encode(
     gain: u8,
     out: &mut [u8],
 ) -> Answer
-    ensures* { λ r. ⌜ Fills (encode_for_c variant gain pcm.now channels rate (length out.old))
-        out.old r out.new ⌝ }
+    ensures { Fills (encode_for_c variant gain pcm.now channels rate (length out.old))
+        out.old result out.new }
 {
     match Variant::try_from(variant) {
         VariantRead::Known(kind) => {
@@ -230,25 +230,23 @@ pub extern "C" fn postlapse_encode(
 }
 
 // The header of a stream that is sound throughout.
-#[unsafe(no_mangle)]
-pub extern "C" fn postlapse_inspect(file: &[u8]) -> HeaderAnswer
-    ensures* { λ r. ⌜ r ≡ header_answer_of (inspected file.now) ⌝ }
+pub fn postlapse_inspect(file: &[u8]) -> HeaderAnswer
+    ensures { result ≡ header_answer_of (inspected file.now) }
 {
     inspected_answer(inspect::inspect(file))
 }
 
 // Decodes a whole stream into `out`, its channels interleaved, and answers its header.
-#[unsafe(no_mangle)]
-pub extern "C" fn postlapse_decode(file: &[u8], out: &mut [i16]) -> HeaderAnswer
-    ensures* { λ r. ⌜ Decodes (decode_call file.now (length out.old))
-        out.old r out.new ⌝ }
+pub fn postlapse_decode(file: &[u8], out: &mut [i16]) -> HeaderAnswer
+    ensures { Decodes (decode_call file.now (length out.old))
+        out.old result out.new }
 {
     decoded_answer(decoder::decode(file, out))
 }
 
 // Whether a call changes the channel's state: a result of versions 1 and 2.
 fn moves(version: u8, answer: FragmentDecoded) -> bool
-    ensures* { λ r. ⌜ r ≡ moves version (fragment_decoded_of answer) ⌝ }
+    ensures { result ≡ moves version (fragment_decoded_of answer) }
 {
     match answer {
         FragmentDecoded::Filled(_) => version < 3,
@@ -266,9 +264,9 @@ struct Played {
 
 // Decodes one fragment of the variant that a byte names.
 fn play(version: u8, byte: u8, state: State, fragment: &[u8], out: &mut [i16]) -> Played
-    ensures* { λ r. ⌜ (Plays (fragment_for_c version byte state fragment.now (length out.old))
-        state out.old r.answer r.state out.new)
-        × (r.moved ≡ moves version (fragment_for_c version byte state fragment.now (length out.old))) ⌝ }
+    ensures { (Plays (fragment_for_c version byte state fragment.now (length out.old))
+        state out.old result.answer result.state out.new)
+        × (result.moved ≡ moves version (fragment_for_c version byte state fragment.now (length out.old))) }
 {
     match Variant::try_from(byte) {
         VariantRead::Known(variant) => {
@@ -295,8 +293,7 @@ fn play(version: u8, byte: u8, state: State, fragment: &[u8], out: &mut [i16]) -
 }
 
 // Decodes as many samples of one fragment as `out` has places, at most a frame's, from the channel's state.
-#[unsafe(no_mangle)]
-pub extern "C" fn postlapse_decode_fragment(
+pub fn postlapse_decode_fragment(
     version: u8,
     variant: u8,
     predictor: i32,
@@ -304,8 +301,8 @@ pub extern "C" fn postlapse_decode_fragment(
     fragment: &[u8],
     out: &mut [i16],
 ) -> FragmentAnswer
-    ensures* { λ r. ⌜ PlaysByValue (fragment_for_c version variant (record { predictor = predictor; index = index }) fragment.now (length out.old))
-        (record { predictor = predictor; index = index }) out.old r out.new ⌝ }
+    ensures { PlaysByValue (fragment_for_c version variant (record { predictor = predictor; index = index }) fragment.now (length out.old))
+        (record { predictor = predictor; index = index }) out.old result out.new }
 {
     let r = play(version, variant, State { predictor, index }, fragment, out);
     let a = r.answer;
@@ -319,16 +316,15 @@ pub extern "C" fn postlapse_decode_fragment(
 }
 
 // The same with the channel's state lent: predictor and index are stored where the call changes them, and else nothing is.
-#[unsafe(no_mangle)]
-pub extern "C" fn postlapse_decode_fragment_lent(
+pub fn postlapse_decode_fragment_lent(
     version: u8,
     variant: u8,
     state: &mut State,
     fragment: &[u8],
     out: &mut [i16],
 ) -> Answer
-    ensures* { λ r. ⌜ Plays (fragment_for_c version variant state.old fragment.now (length out.old))
-        state.old out.old r state.new out.new ⌝ }
+    ensures { Plays (fragment_for_c version variant state.old fragment.now (length out.old))
+        state.old out.old result state.new out.new }
 {
     let s = *state;
     let r = play(version, variant, s, fragment, out);
@@ -355,8 +351,8 @@ pub fn decode_through_lent(
     fragment: &[u8],
     out: &mut [i16],
 ) -> Returned
-    ensures* { λ r. ⌜ Plays (fragment_for_c version variant state fragment.now (length out.old))
-        state out.old r.answer r.state out.new ⌝ }
+    ensures { Plays (fragment_for_c version variant state fragment.now (length out.old))
+        state out.old result.answer result.state out.new }
 {
     let mut s = state;
     let answer = postlapse_decode_fragment_lent(version, variant, &mut s, fragment, out);
@@ -364,40 +360,31 @@ pub fn decode_through_lent(
 }
 
 // What a WAV file says, and where its sample bytes lie.
-#[unsafe(no_mangle)]
-pub extern "C" fn postlapse_read_wave(file: &[u8]) -> WaveAnswer
-    ensures* { λ r. ⌜ r ≡ wave_answer_of (read_wave file.now) ⌝ }
+pub fn postlapse_read_wave(file: &[u8]) -> WaveAnswer
+    ensures { result ≡ wave_answer_of (read_wave file.now) }
 {
     read_answer(wav::read_pcm16_wave(file))
 }
 
 // The same for a file without leftovers.
-#[unsafe(no_mangle)]
-pub extern "C" fn postlapse_read_strict_wave(file: &[u8]) -> WaveAnswer
-    ensures* { λ r. ⌜ r ≡ wave_answer_of (read_strict file.now) ⌝ }
+pub fn postlapse_read_strict_wave(file: &[u8]) -> WaveAnswer
+    ensures { result ≡ wave_answer_of (read_strict file.now) }
 {
     read_answer(wav::read_strict(file))
 }
 
 // Sample bytes as 16-bit numbers, and how many there are.
-#[unsafe(no_mangle)]
-pub extern "C" fn postlapse_load_samples(bytes: &[u8], out: &mut [i16]) -> Answer
-    ensures* { λ r. ⌜ Fills (samples_call bytes.now (length out.old))
-        out.old r out.new ⌝ }
+pub fn postlapse_load_samples(bytes: &[u8], out: &mut [i16]) -> Answer
+    ensures { Fills (samples_call bytes.now (length out.old))
+        out.old result out.new }
 {
     filled_answer(wav_samples::load_samples(bytes, out))
 }
 
 // Writes a WAV file of the interleaved samples to the front of `out`, and answers its length.
-#[unsafe(no_mangle)]
-pub extern "C" fn postlapse_write_wave(
-    channels: u8,
-    rate: u32,
-    samples: &[i16],
-    out: &mut [u8],
-) -> Answer
-    ensures* { λ r. ⌜ Fills (write_call channels rate samples.now (length out.old))
-        out.old r out.new ⌝ }
+pub fn postlapse_write_wave(channels: u8, rate: u32, samples: &[i16], out: &mut [u8]) -> Answer
+    ensures { Fills (write_call channels rate samples.now (length out.old))
+        out.old result out.new }
 {
     filled_answer(wav_writer::write_pcm16_wave(channels, rate, samples, out))
 }

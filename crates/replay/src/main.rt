@@ -4,9 +4,12 @@
 // oracle/README.md has the layout. Each question is asked of the proved functions, and the answer's bytes are compared. The program prints
 // for each file how many answers there were and how many differ.
 #![tactic(auto)]
+
 use format::State;
-use libc::STDOUT_FILENO;
 use postlapse::{Answer, HeaderAnswer, WaveAnswer};
+use std::fs::File;
+use std::io;
+use std::io::Read;
 
 // The places of the arrays that are lent to the calls. Each byte of them is 165 before a call.
 const SAMPLES: usize = 1024;
@@ -378,21 +381,21 @@ fn is_answered(question: &[u8], answer: &[u8]) -> bool {
 }
 
 // Whether the next n bytes of the list could be read to the front of a buffer.
-fn read_exact(fd: i32, buffer: &mut [u8], n: usize) -> bool {
+fn read_exact(list: &mut File, buffer: &mut [u8], n: usize) -> bool {
     if buffer.len() < n {
         return false;
     }
-    io::read_full(fd, &mut buffer[..n]) == n
+    list.read_exact(&mut buffer[..n]).is_ok()
 }
 
 // Reads what is stored of a question and of its answer, and tries it. The rest of both is zeros.
-fn try_record(fd: i32, sizes: [u8; 16]) -> Turn {
+fn try_record(list: &mut File, sizes: [u8; 16]) -> Turn {
     let mut question = [0u8; 65538];
-    if !read_exact(fd, &mut question, word_at(&sizes, 4) as usize) {
+    if !read_exact(list, &mut question, word_at(&sizes, 4) as usize) {
         return Turn::Broken;
     }
     let mut answer = [0u8; commands::ROOM];
-    if !read_exact(fd, &mut answer, word_at(&sizes, 12) as usize) {
+    if !read_exact(list, &mut answer, word_at(&sizes, 12) as usize) {
         return Turn::Broken;
     }
     let asked = front(&question, word_at(&sizes, 0) as usize);
@@ -404,16 +407,13 @@ fn try_record(fd: i32, sizes: [u8; 16]) -> Turn {
 }
 
 // One question with its answer: the sizes of both and of what is stored of them, four bytes each, then both.
-fn replay_one(fd: i32) -> Turn {
+fn replay_one(list: &mut File) -> Turn {
     let mut sizes = [0u8; 16];
-    let got = io::read_full(fd, &mut sizes);
-    if got == 0 {
-        return Turn::End;
+    match io::copy(&mut list.by_ref().take(16), &mut &mut sizes[..]) {
+        Ok(0) => Turn::End,
+        Ok(16) => try_record(list, sizes),
+        _ => Turn::Broken,
     }
-    if got != 16 {
-        return Turn::Broken;
-    }
-    try_record(fd, sizes)
 }
 
 // What the whole list gave.
@@ -425,13 +425,13 @@ struct Tally {
 }
 
 // The list's records, of which there are fewer than a million.
-fn replay_all(fd: i32) -> Tally {
+fn replay_all(list: &mut File) -> Tally {
     let mut answers: u32 = 0;
     let mut differ: u32 = 0;
     let mut left: u32 = 1000000;
     while 0 < left {
         left -= 1;
-        match replay_one(fd) {
+        match replay_one(list) {
             Turn::End => {
                 return Tally {
                     answers,
@@ -463,36 +463,30 @@ fn replay_all(fd: i32) -> Tally {
 }
 
 // Replays a file, and prints what it gave.
-fn replay_file(name: &[u8]) {
-    let fd = os::open_read(name);
-    if fd < 0 {
-        os::fail(name);
-        return;
-    }
-    let tally = replay_all(fd);
-    libc::close(fd);
-    io::write_all(STDOUT_FILENO, name);
-    io::write_all(STDOUT_FILENO, b": ");
-    io::print_decimal(STDOUT_FILENO, tally.answers as u64);
-    io::write_all(STDOUT_FILENO, b" answers, ");
-    io::print_decimal(STDOUT_FILENO, tally.differ as u64);
-    io::write_all(STDOUT_FILENO, b" differ\n");
+fn replay_file(rt: &HostRuntime, name: &str) -> io::Result<()> {
+    let mut list = File::open(rt, name)?;
+    let tally = replay_all(&mut list);
+    let answers = tally.answers;
+    let differ = tally.differ;
+    println!(rt; "{name}: {answers} answers, {differ} differ")?;
     if !tally.whole {
-        io::write_all(STDOUT_FILENO, b"the list breaks off\n");
+        println!(rt; "the list breaks off")?;
     }
+    Ok(())
 }
 
-fn main() {
-    replay_file(b"encode");
-    replay_file(b"inspect");
-    replay_file(b"decode");
-    replay_file(b"fragment");
-    replay_file(b"wav");
-    replay_file(b"strict");
-    replay_file(b"load");
-    replay_file(b"write");
-    replay_file(b"converter");
-    replay_file(b"inspector");
-    replay_file(b"ima");
-    replay_file(b"wrong");
+fn main(rt: HostRuntime) -> io::Result<()> {
+    replay_file(&rt, "encode")?;
+    replay_file(&rt, "inspect")?;
+    replay_file(&rt, "decode")?;
+    replay_file(&rt, "fragment")?;
+    replay_file(&rt, "wav")?;
+    replay_file(&rt, "strict")?;
+    replay_file(&rt, "load")?;
+    replay_file(&rt, "write")?;
+    replay_file(&rt, "converter")?;
+    replay_file(&rt, "inspector")?;
+    replay_file(&rt, "ima")?;
+    replay_file(&rt, "wrong")?;
+    Ok(())
 }
