@@ -1,5 +1,6 @@
 // The checks on the chunks of a WAV file: those of plain reading, after the walk, and those of strict reading.
 #![tactic(auto)]
+
 ghost use Rattle.std.specs.Prelude.{◌≡◌, ◌≤◌};
 ghost use Rattle.wav_format.specs.Wave.{pcm16, consistent, check_format, check_data, check_chunks, strict_size, check_strict};
 ghost use Rattle.wav_format.specs.Answers.{read_of};
