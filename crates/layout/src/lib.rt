@@ -1,5 +1,6 @@
 // Where the fragments of a stream lie: frames and their counts, sizes, places.
 #![tactic(auto)]
+
 ghost use Rattle.std.specs.Prelude.{◌≡◌, ◌-◌, ◌*◌, ◌^◌, ◌≤◌, ◌<◌, length};
 ghost use Rattle.format.specs.Layout.{channels_fit, prefix, frames, count, size_in, stream_length, fragment_at_place};
 
