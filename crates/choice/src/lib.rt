@@ -1,5 +1,6 @@
 // The code that the encoder chooses for a normalised sample.
 #![tactic(auto)]
+
 ghost use Rattle.std.specs.Prelude.{◌≡◌, ◌<◌, ◌≤◌, ◌^◌};
 ghost use Rattle.std.specs.Int.Signed.{mag};
 ghost use Rattle.format.specs.Tables as tables;
