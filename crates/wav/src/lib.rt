@@ -1,5 +1,6 @@
 // Reading of WAV files, plain and strict: what a file says, and its sample bytes as a part of it.
 #![tactic(auto)]
+
 ghost use Rattle.std.specs.Prelude.{◌≡◌, length};
 ghost use Rattle.wav_format.specs.Wave.{read_wave, read_strict, part_of};
 ghost use Rattle.wav_format.specs.Answers.{read_of};
