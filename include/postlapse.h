@@ -1,6 +1,6 @@
 /* Postlapse: the SQV4 voice codec and 16-bit WAV files, for C.
  *
- * Link with libpostlapse.a (`rt staticlib postlapse` writes it to target/staticlib). The archive is for x86-64 Linux, and needs
+ * Link with libpostlapse.a (`tools/build library` writes it to target/staticlib). The archive is for x86-64 Linux, and needs
  * nothing of others but memcpy and memset.
  *
  * Each call answers for every input, by value. It takes no heap, keeps nothing between calls, and may run in several threads at

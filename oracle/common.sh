@@ -32,11 +32,11 @@ keep() {
     if cmp -s "$out/new-$$" "$1"; then rm "$out/new-$$"; else mv "$out/new-$$" "$1"; fi
 }
 
-# stale FILE SOURCE..: FILE is missing or older than one of its sources.
+# stale FILE SOURCE..: FILE is missing or older than one of its sources. What the toolchain leaves in a crate's out/ is no source.
 stale() {
     built=$1
     shift
-    [ ! -f "$built" ] || [ -n "$(find "$@" -newer "$built")" ]
+    [ ! -f "$built" ] || [ -n "$(find "$@" -name out -prune -o -newer "$built" -print)" ]
 }
 
 # compile FILE ARGUMENT..: under another name first, so that a build which fails leaves no new file. Overflow checks
@@ -82,6 +82,6 @@ reference_converter() {
 proved_archive() {
     archive=$top/target/staticlib/libpostlapse.a
     if stale "$archive" "$top/crates"; then
-        (cd "$top" && rt staticlib postlapse) >"$out/staticlib.log" 2>&1 || { cat "$out/staticlib.log" >&2; exit 2; }
+        "$top/tools/build" library >"$out/staticlib.log" 2>&1 || { cat "$out/staticlib.log" >&2; exit 2; }
     fi
 }
