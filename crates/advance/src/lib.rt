@@ -1,6 +1,7 @@
 // The state after the code that the encoder chooses, without the code: for H by what is left of the distance, for L and L+ by three
 // comparisons instead of eight candidates.
 #![tactic(auto)]
+
 ghost use Rattle.std.specs.Prelude.{◌≡◌, ◌+◌, ◌-◌, ◌<◌, ◌≤◌, min, if◌then◌else◌};
 ghost use Rattle.std.specs.Int.Signed.{mag};
 ghost use Rattle.lists.specs.Lists.{tabulate};

@@ -1,0 +1,68 @@
+-- `advance::l_next` meets its contract: three tests choose the code. Assumes nothing.
+use Rattle.std.proofs.Common.{◌+◌, ◌*◌, ltb, refl, arith}
+use Rattle.signed.proofs.Laws.{back32, read16}
+use Rattle.signed.proofs.Raised.{lower_is}
+use Rattle.format.specs.Step.{step_at}
+use Rattle.adpcm.proofs.Bounds.{step_low}
+use Rattle.advance.proofs.Nearest.{Chosen, cut}
+use Rattle.advance.specs.Advance.{size_at}
+use Rattle.advance.proofs.Choice.{sized_order, l-chosen, l-stepped}
+use Rattle.advance.proofs.l_next.Goals as goal
+use Rattle.advance.proofs.l_next.Goals.{After-pick-offset}
+
+pub within-sizes-requires : goal.within-sizes-requires
+within-sizes-requires c =
+    sized_order c.args.variant (step_at c.args.state.index) c.requires.3 (step_low c.args.state.index c.requires.1.index) c.sizes_at.ensures
+
+-- what the three tests choose
+known : (c : After-pick-offset) →
+    let w = c.within-sizes in
+    let r = c.gap-twice.result in
+    Chosen r (cut (size_at c.args.variant (step_at c.args.state.index)) c.room-limit.result)
+    (c.count_of.result + c.count_of-2.result + c.count_of-3.result)
+    c.pick-offset.result
+    (ltb (w.result.a + w.result.b) (2 * r))
+known c =
+    let z = c.sizes_at.ensures in
+    let w = c.within-sizes.ensures in
+    let m = c.room-limit.ensures in
+    l-chosen c.args.variant c.args.state c.args.input c.requires.3 c.requires.1 c.requires.2 _ _ _
+    refl
+    (rw (read16 c.args.input c.requires.2) at c.raise-x.ensures.0)
+    (rw (read16 c.args.state.predictor c.requires.1.predictor) at c.raise-p.ensures.0)
+    _ _ c.gap-twice.ensures m.0 m.1 c.raise-x.ensures.1 c.raise-p.ensures.1
+    (rw z.first at w.first)
+    (rw z.second at w.second)
+    (rw z.third at w.third)
+    (rw z.fourth at w.fourth)
+    (omega (arith, c.count_of.ensures.0, c.count_of-2.ensures.0, c.count_of-3.ensures.0))
+    (rw (c.pick-offset.ensures, c.pick-2.ensures, c.pick.ensures))
+
+pub l_landed-requires : goal.l_landed-requires
+l_landed-requires c =
+    let m = c.room-limit.ensures in
+    let v = (known (goal.at.l_landed-requires c).After-pick-offset).value in (
+      c.raise-p.ensures.1,
+      omega (arith, c.gap-twice.ensures, c.raise-p.ensures.1, c.raise-x.ensures.1),
+      (λ l. omega (arith, v, m.0 l)),
+      (λ l. omega (arith, v, m.1 l)),
+    )
+
+pub moved-requires : goal.moved-requires
+moved-requires c = (c.requires.1.index, omega (arith, (known (goal.at.moved-requires c).After-pick-offset).within))
+
+pub returns : goal.returns
+returns c =
+    let m = c.room-limit.ensures in
+    let l = c.lower in
+    l-stepped c.args.variant c.args.state c.args.input c.requires.3 c.requires.1 c.requires.2 _ _ _
+    refl
+    (rw (read16 c.args.input c.requires.2) at c.raise-x.ensures.0)
+    (rw (read16 c.args.state.predictor c.requires.1.predictor) at c.raise-p.ensures.0)
+    _ _ c.gap-twice.ensures m.0 m.1 c.raise-x.ensures.1 c.raise-p.ensures.1
+    (known (goal.at.returns c).After-pick-offset)
+    c.l_landed.ensures
+    _ _
+    (rw (back32 l.result l.type_inv, l.ensures) (lower_is _ c.l_landed.ensures.small).0)
+    (rw (back32 l.result l.type_inv, l.ensures) (lower_is _ c.l_landed.ensures.small).1)
+    c.moved.ensures
