@@ -1,5 +1,6 @@
 // Inspection: the checks of the header, then of each fragment in file order.
 #![tactic(auto)]
+
 ghost use Rattle.std.specs.Prelude.{◌≡◌, cond, ltb, ℕ, ◌+◌, ◌*◌, ◌/◌, ◌^◌, ◌≤◌, ◌<◌, length};
 ghost use Rattle.outcome.specs.Outcome.{in_order};
 ghost use Rattle.format.specs.Layout.{header_of, frames, count, stream_length, fragment_at_place};
