@@ -1,5 +1,6 @@
 // Decoding one fragment whose checks have passed: the loop over its codes, a core for version 3 and one for versions 1 and 2.
 #![tactic(auto)]
+
 ghost use Rattle.std.specs.Prelude.{◌≡◌, true, ℕ, ◌<◌, ◌≤◌, ◌^◌, length, get_or};
 ghost use Rattle.std.specs.Int.Signed.{mag};
 ghost use Rattle.lists.specs.Lists.{tabulate};
