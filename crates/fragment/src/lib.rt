@@ -1,5 +1,6 @@
 // The public decoder for one fragment, by value: its checks.
 #![tactic(auto)]
+
 ghost use Rattle.std.specs.Prelude.{◌≡◌};
 ghost use Rattle.format.specs.Decode.{fragment_fits, state_fits};
 ghost use Rattle.format.specs.Answers.{AsCalled};
