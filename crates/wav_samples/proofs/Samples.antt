@@ -8,7 +8,7 @@ use borrow.Author.Tests.{lt-ltb}
 use lib.IntN.{ℤ}
 use lib.ListN.{length, get_or, set, take, drop, take-append-drop}
 use lib.Seq.{drop-drop, drop-set-lt}
-use Rattle.outcome.specs.Outcome.{result, refused, on_result, output_after}
+use Rattle.outcome.specs.Outcome.{refused, on_result, output_after}
 use Rattle.outcome.proofs.Laws.{met, on_result_lem, output_result}
 use Rattle.lists.specs.Lists.{tabulate}
 use Rattle.lists.proofs.ByIndex.{length_tabulate, fill_next}

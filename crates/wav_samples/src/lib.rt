@@ -1,5 +1,6 @@
 // The samples of a WAV file: its sample bytes as 16-bit numbers.
 #![tactic(auto)]
+
 ghost use Rattle.wav_format.specs.Answers.{AsSamples};
 
 use wav_format::{WaveError, WaveFilled};
