@@ -2,6 +2,7 @@
 // a predictor is kept as its depth below 32767, which needs no signed number. That this is the step of the definitions is shown in
 // proofs/Steps.
 #![tactic(auto)]
+
 ghost use Rattle.std.specs.Prelude.{◌≡◌, ◌+◌, ◌-◌, ◌/◌, ◌<◌, ◌≤◌, ◌^◌, length, get_or};
 ghost use Rattle.format.specs.Layout.{bits};
 ghost use Rattle.format.specs.Decode.{InRange};

@@ -7,12 +7,8 @@ use Rattle.format.specs.Step.{step_at, h_size, difference}
 use Rattle.format.specs.declared.Variant.TheVariants.{H}
 use Rattle.lookup.specs.Lookup.{difference_rule}
 use Rattle.lookup.proofs.Rows.{rows}
-use Rattle.lookup.proofs.tables.h_differences.Statement.{statement}
-use Rattle.lookup.proofs.tables.h_differences.Tie as tie
+use Rattle.lookup.proofs.tables.h_differences.Goals as goal
 
-returns : tie.Need-returns
+pub returns : goal.returns
 unfolding every_at in_row step_at steps h_size difference with_sign
 returns c = λ version. rows 16 (difference_rule version H) _ refl tt
-
-pub h-differences-spec : {M : Type 1} → statement M
-h-differences-spec = tie.close (tie.spec returns)

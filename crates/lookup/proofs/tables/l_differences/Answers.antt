@@ -7,12 +7,8 @@ use Rattle.format.specs.Step.{step_at, l_size, level_of, difference}
 use Rattle.format.specs.declared.Variant.TheVariants.{L}
 use Rattle.lookup.specs.Lookup.{difference_rule}
 use Rattle.lookup.proofs.Rows.{rows}
-use Rattle.lookup.proofs.tables.l_differences.Statement.{statement}
-use Rattle.lookup.proofs.tables.l_differences.Tie as tie
+use Rattle.lookup.proofs.tables.l_differences.Goals as goal
 
-returns : tie.Need-returns
+pub returns : goal.returns
 unfolding every_at in_row step_at steps l_size level_of l_levels difference with_sign
 returns c = λ version. rows 8 (difference_rule version L) _ refl tt
-
-pub l-differences-spec : {M : Type 1} → statement M
-l-differences-spec = tie.close (tie.spec returns)

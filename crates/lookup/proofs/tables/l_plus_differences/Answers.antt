@@ -7,12 +7,8 @@ use Rattle.format.specs.Step.{step_at, l_size, level_of, difference}
 use Rattle.format.specs.declared.Variant.TheVariants.{LPlus}
 use Rattle.lookup.specs.Lookup.{difference_rule}
 use Rattle.lookup.proofs.Rows.{rows, other_versions}
-use Rattle.lookup.proofs.tables.l_plus_differences.Statement.{statement}
-use Rattle.lookup.proofs.tables.l_plus_differences.Tie as tie
+use Rattle.lookup.proofs.tables.l_plus_differences.Goals as goal
 
-returns : tie.Need-returns
+pub returns : goal.returns
 unfolding every_at in_row step_at steps l_size level_of l_plus_levels difference with_sign
 returns c = λ version e. other_versions version e (rows 8 (difference_rule 2 LPlus) _ refl tt)
-
-pub l-plus-differences-spec : {M : Type 1} → statement M
-l-plus-differences-spec = tie.close (tie.spec returns)

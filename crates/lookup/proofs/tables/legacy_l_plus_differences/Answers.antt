@@ -7,12 +7,8 @@ use Rattle.format.specs.Step.{step_at, l_size, level_of, difference}
 use Rattle.format.specs.declared.Variant.TheVariants.{LPlus}
 use Rattle.lookup.specs.Lookup.{difference_rule}
 use Rattle.lookup.proofs.Rows.{rows}
-use Rattle.lookup.proofs.tables.legacy_l_plus_differences.Statement.{statement}
-use Rattle.lookup.proofs.tables.legacy_l_plus_differences.Tie as tie
+use Rattle.lookup.proofs.tables.legacy_l_plus_differences.Goals as goal
 
-returns : tie.Need-returns
+pub returns : goal.returns
 unfolding every_at in_row step_at steps l_size level_of legacy_l_plus_levels difference with_sign
 returns c = rows 8 (difference_rule 1 LPlus) _ refl tt
-
-pub legacy-l-plus-differences-spec : {M : Type 1} → statement M
-legacy-l-plus-differences-spec = tie.close (tie.spec returns)

@@ -6,12 +6,8 @@ use Rattle.format.specs.Tables.{h_index_adjust}
 use Rattle.format.specs.declared.Variant.TheVariants.{H}
 use Rattle.lookup.specs.Lookup.{next_rule}
 use Rattle.lookup.proofs.Rows.{rows}
-use Rattle.lookup.proofs.tables.h_nexts.Statement.{statement}
-use Rattle.lookup.proofs.tables.h_nexts.Tie as tie
+use Rattle.lookup.proofs.tables.h_nexts.Goals as goal
 
-returns : tie.Need-returns
+pub returns : goal.returns
 unfolding every_at in_row clamp_to h_index_adjust
 returns c = rows 16 (next_rule H) _ refl tt
-
-pub h-nexts-spec : {M : Type 1} → statement M
-h-nexts-spec = tie.close (tie.spec returns)
