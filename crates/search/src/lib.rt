@@ -1,5 +1,6 @@
 // Which start index a fragment gets: the sum of the trial from each start, given up once it can no longer win, and the least.
 #![tactic(auto)]
+
 ghost use Rattle.std.specs.Prelude.{◌≡◌, map, ◌+◌, ◌/◌, ◌%◌, ◌<◌, ◌≤◌, ◌^◌, true, nat_abs, ◌-ℤ◌, length, take};
 ghost use Rattle.std.specs.Int.Signed.{mag};
 ghost use Rattle.lists.specs.Lists.{tabulate};
