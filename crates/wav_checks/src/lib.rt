@@ -26,6 +26,7 @@ fn is_pcm16(encoding: u16, bits: u16) -> bool
 }
 
 // Whether alignment and byte rate are those of channels and rate.
+#[tactic(auto, unfolding(wav_format::specs::Wave::consistent))]
 fn is_consistent(channels: u16, rate: u32, byte_rate: u32, align: u16) -> bool
     ensures { result ≡ consistent channels rate byte_rate align }
 {
