@@ -1,6 +1,7 @@
 // Decoding a fragment by lent tables, for whole streams: its codes are unpacked, the depths of all predictors found, then the output
 // gain applied to all, so that each loop is small and has no branch.
 #![tactic(auto)]
+
 ghost use Rattle.std.specs.Prelude.{◌≡◌, cond, ℕ, ◌+◌, ◌<◌, ◌≤◌, ◌^◌, pos, ◌-ℤ◌, length, get_or, set, take};
 ghost use Rattle.lists.specs.Lists.{tabulate};
 ghost use Rattle.digits.specs.Digits.{field, unpacked};
