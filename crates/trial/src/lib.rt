@@ -1,5 +1,6 @@
 // Encoding one fragment: the trial from one start index, the best of all, which `search` finds, and the fragment's bytes.
 #![tactic(auto)]
+
 ghost use Rattle.std.specs.Prelude.{◌≡◌, ◌∷◌, map, ℕ, ◌-◌, ◌<◌, ◌≤◌, ◌^◌, length, get_or, take};
 ghost use Rattle.lists.specs.Lists.{tabulate};
 ghost use Rattle.digits.specs.Digits.{digits, packed};
