@@ -1,7 +1,7 @@
 -- What is proved of the definitions: each claim under the sentence of 01 or of the demands that it renders. The contracts of the
 -- entry points cite the same definitions, so the claims speak of running code as soon as a contract is met. Uses.antt has the claims
 -- at work, and instances. Assumes nothing.
-use mathlib.Core.Path.{◌≡◌}
+use mathlib.Core.Path.{◌≡◌, refl}
 use mathlib.Core.Bool.{Bool, true}
 use mathlib.Core.List.{List, map}
 use Prim.Native.Nat.{ℕ, ◌*◌, ◌/◌, ◌%◌, ◌^◌, ◌≤◌, ◌<◌}
@@ -22,7 +22,8 @@ use Rattle.format.specs.Encode.{channel, header_written, encoded, encode_call, O
 use Rattle.format.specs.Inspect.{Sound, inspected, decode_call, Agree}
 use Rattle.format.specs.Calls.{Call, Listed, InStream, Separate}
 use Rattle.format.specs.Tests.{is_state, ample, settings, encodes, inspects, decodes, plays, steps}
-use Rattle.format.specs.Cases.{cases, further, pinned}
+use Rattle.format.specs.Cases.{cases, further}
+use Rattle.format.specs.Refusals.{encode_checks, more, pinned}
 use Rattle.format.specs.Answers.{number_of, values_of}
 use Rattle.format.proofs as proofs
 use Rattle.format.specs.declared.Variant.{Variant}
@@ -37,9 +38,13 @@ use Rattle.format.specs.declared.Error.{Error}
 pub starred_cases : T cases
 starred_cases = proofs.Checks.cases_hold
 
--- what the cases leave open: tables, slips of other players, ties, thresholds that just fit, volume 0, refused calls
+-- what the cases leave open: tables, slips of other players, a tie, a last partial frame, 13, 14, 15, the order of checks
 pub further_checks : T further
 further_checks = proofs.Checks.further_hold
+
+-- more of them: ties, thresholds that just fit, the limits of a state, two channels of several frames
+pub more_checks : T more
+more_checks = proofs.Checks.more_hold
 
 -- every refusal of every call: inputs that give it, the numbers returned, its neighbours across the bound, its place in the order
 pub refusals_pinned : T pinned
@@ -123,6 +128,12 @@ pub encode_accepts : (k : Settings) (pcm : List ℤ) (channels rate room : ℕ) 
     → encode_call k pcm channels rate room ≡ result (encoded k pcm channels rate)
 encode_accepts = proofs.Encoder.encode_accepts
 
+-- the checks of a call are those of its numbers, which the cases pin
+pub encode_by_numbers : (k : Settings) (pcm : List ℤ) (channels rate room : ℕ) → encode_call k pcm channels rate room
+    ≡ encode_checks channels rate (length pcm) (stream_length (header_written k pcm channels rate)) room (result (encoded k pcm channels rate))
+unfolding encode_call
+encode_by_numbers k pcm channels rate room = refl
+
 -- "Decoder: inspection, then 13": it refuses what inspection refuses, and decodes what inspection accepts where there is room
 pub decode_refuses : (d : List ℕ) (room n : ℕ) (vs : List ℕ) → inspected d ≡ refused n vs → decode_call d room ≡ refused n vs
 decode_refuses = proofs.Agreement.decode_refuses
@@ -185,6 +196,14 @@ state_anew = proofs.Range.before_anew
 pub refused_anyway : (version : ℕ) (variant : Variant) (s t : State) (fragment : List ℕ) (n : ℕ) → InRange s
     → Refuses (fragment_call version variant s fragment n) → Refuses (fragment_call version variant t fragment n)
 refused_anyway = proofs.Range.refused_anyway
+
+-- the claims are not empty: a version 2 stereo stream and five calls, two of them refused, meet the premises of the one, and a
+-- version 3 stereo stream and five calls, the last frame first and one of them refused, those of the other
+pub separation_instance : Separate proofs.Instance.header proofs.Instance.stream proofs.Instance.calls
+separation_instance = proofs.Instance.separate_here
+
+pub any_order_instance : Separate proofs.Instance.header3 proofs.Instance.stream3 proofs.Instance.calls3
+any_order_instance = proofs.Instance.separate3_here
 
 -- "Whatever the rest holds, two accepted streams with equal headers and equal fragments in one channel agree on that channel's
 -- samples": with each other and with the definition's

@@ -112,11 +112,11 @@ heard_blind k pcm pcm' channels rate c room room' bytes bytes' r hc e e' same n 
 
 -- a version 2 stereo stream and five calls, two of them refused, meet the premises of separation, and a version 3 stereo stream and
 -- five calls, the last frame first and one of them refused, those of any_order
-pub separation_instance : Separate here.header here.stream here.calls
-separation_instance = claims.separation here.stream here.header here.accepted_here here.calls here.listed_here
+pub separation_used : Separate here.header here.stream here.calls
+separation_used = claims.separation here.stream here.header here.accepted_here here.calls here.listed_here
 
-pub any_order_instance : Separate here.header3 here.stream3 here.calls3
-any_order_instance = claims.any_order here.stream3 here.header3 here.accepted3_here here.anew3_here here.calls3 here.in_stream_here
+pub any_order_used : Separate here.header3 here.stream3 here.calls3
+any_order_used = claims.any_order here.stream3 here.header3 here.accepted3_here here.anew3_here here.calls3 here.in_stream_here
 
 -- from a state at its limits
 pub refused_at_the_limit : (version : ℕ) (variant : Variant) (fragment : List ℕ) (n : ℕ)

@@ -10,3 +10,4 @@ pub mod Answers
 pub mod Tests
 pub mod Compute
 pub mod Cases
+pub mod Refusals

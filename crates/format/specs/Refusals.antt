@@ -1,0 +1,280 @@
+-- What the worked cases leave open beside the further checks, and every refusal of every call: each a test that computes. Assumes nothing.
+use Rattle.std.specs.Prelude.{ℕ, zero, suc, ◌+◌, ◌-◌, ◌*◌, ◌/◌, ◌%◌, Bool, ◌&&◌, not, List, [], ◌∷◌, ◌++◌, eqb, ltb, ℤ, pos, negsuc, neg_ℤ, nat_abs, ◌+ℤ◌, length, take, drop, replicate}
+use Rattle.outcome.specs.Outcome.{Outcome, result, need, refuse_if, ◌⟫◌}
+use Rattle.outcome.specs.Tests.{gives, accepts, refuses}
+use Rattle.lists.specs.Lists.{tabulate}
+use Rattle.lists.specs.Tests.{eq_z, same_bytes, same_samples}
+use Rattle.format.specs.Layout.{channels_fit, version_for, fragment_size, stream_length}
+use Rattle.format.specs.Step.{stepped}
+use Rattle.format.specs.Gain.{pregained, volume_of, normalised, output_gain}
+use Rattle.format.specs.Decode.{DecodedFragment, zero_state, Called, fragment_call, moves, called}
+use Rattle.format.specs.Encode.{too_many, encode_call}
+use Rattle.format.specs.Inspect.{Sound, decode_call}
+use Rattle.format.specs.Tests.{is_state, ample, settings, encodes, inspects, inspect_refused, decodes, plays}
+use Rattle.format.specs.declared.Variant.{Variant}
+use Rattle.format.specs.declared.Variant.TheVariants.{H, L, LPlus}
+use Rattle.format.specs.declared.State.{State}
+use Rattle.format.specs.declared.Header.{Header}
+
+-- slips seen in other players: L+ levels of version 1 in version 2; a later index winning a tie (starts 71 to 88 reach the same
+-- sum). Besides, with the Rust's answers: a start of 88; sums on normalised values, or of distances and not of their squares; a threshold
+-- that just fits, a half of a step that is just what is left, another part of a step than a quarter; bit 8 where input is the predictor;
+-- the higher of two codes that are equally near; the last code left out; the nearest before the clamp
+abbrev begins : Variant → List ℤ → List ℕ → Bool
+begins variant samples front =
+    gives (λ b. same_bytes (take 3 (drop 16 b)) front) (encode_call (settings variant 255) samples 1 8000 ample)
+
+abbrev slips : Bool
+slips =
+    eq_z (stepped 2 LPlus zero_state 0).predictor (pos 1)
+    && begins H (pos 49 ∷ []) (1 ∷ 71 ∷ 7 ∷ []) && begins H (pos 79 ∷ []) (1 ∷ 88 ∷ 2 ∷ []) && begins H (pos 1 ∷ []) (1 ∷ 24 ∷ 7 ∷ [])
+    && begins H (neg_ℤ (pos 2035) ∷ pos 1058 ∷ []) (16 ∷ 86 ∷ 0x5c ∷ [])
+    && begins H (pos 3174 ∷ []) (25 ∷ 82 ∷ 7 ∷ []) && begins H (pos 741 ∷ neg_ℤ (pos 1652) ∷ []) (13 ∷ 88 ∷ 225 ∷ [])
+    && begins H (neg_ℤ (pos 2748) ∷ neg_ℤ (pos 474) ∷ []) (22 ∷ 83 ∷ 0x3e ∷ [])
+    && begins H (pos 0 ∷ pos 1 ∷ []) (1 ∷ 24 ∷ 0x70 ∷ []) && begins L (pos 0 ∷ pos 1 ∷ []) (1 ∷ 31 ∷ 0x18 ∷ [])
+    && begins L (negsuc 0 ∷ []) (1 ∷ 32 ∷ 7 ∷ [])
+    && begins LPlus (pos 89 ∷ pos 0 ∷ []) (1 ∷ 75 ∷ 0x33 ∷ [])
+
+-- the clamps of predictor and index at their ends; peaks whose volume another divisor would round otherwise; both output gains at 255
+abbrev limits : Bool
+limits =
+    is_state (stepped 3 H (record { predictor = negsuc 32767; index = 88 }) 15) (negsuc 32767) 88
+    && is_state (stepped 3 H (record { predictor = pos 32767; index = 88 }) 7) (pos 32767) 88 && is_state (stepped 3 L zero_state 0) (pos 1) 0
+    && eqb (volume_of 257) 3 && eqb (volume_of 11179) 87
+    && eq_z (output_gain 2 255 (pos 256)) (pos 256) && eq_z (output_gain 3 255 (pos 256)) (pos 256)
+
+abbrev zeros : ℕ → List ℕ
+zeros n = replicate n 0
+
+-- a stream's header: H, one channel, 8000 samples a second
+abbrev head : ℕ → ℕ → List ℕ
+head version samples = 83 ∷ 81 ∷ 86 ∷ 52 ∷ version ∷ 0 ∷ 1 ∷ 0 ∷ 64 ∷ 31 ∷ 0 ∷ 0 ∷ samples ∷ 0 ∷ 0 ∷ 0 ∷ []
+
+-- the same bytes but for one
+abbrev changed : ℕ → ℕ → List ℕ → List ℕ
+changed at byte d = take at d ++ (byte ∷ drop (suc at) d)
+
+-- two channels of three samples, interleaved, with a state and a volume for each; the samples are the Rust's
+abbrev stereo : ℕ → ℕ → List ℕ
+stereo version samples = changed 6 2 (head version samples)
+
+abbrev interleaved : Bool
+interleaved =
+    decodes (stereo 2 3 ++ (255 ∷ 0x71 ∷ 2 ∷ zeros 30) ++ (128 ∷ 0x6f ∷ 5 ∷ zeros 30)) (pos 1 ∷ neg_ℤ (pos 5) ∷ pos 12 ∷ pos 7 ∷ pos 22 ∷ pos 26 ∷ [])
+    && decodes (stereo 3 3 ++ (255 ∷ 40 ∷ 0x71 ∷ 2 ∷ zeros 30) ++ (128 ∷ 50 ∷ 0x6f ∷ 5 ∷ zeros 30)) (pos 126 ∷ neg_ℤ (pos 824) ∷ pos 700 ∷ pos 707 ∷ pos 1111 ∷ pos 3003 ∷ [])
+
+-- several frames of two channels: fragments stand frame by frame, left before right
+abbrev places : Bool
+places =
+    gives (λ (s : Sound). same_samples (drop 126 s.samples) (pos 126 ∷ neg_ℤ (pos 824) ∷ []))
+    (decode_call (stereo 3 64 ++ zeros 68 ++ (255 ∷ 40 ∷ 1 ∷ zeros 31) ++ (128 ∷ 50 ∷ 15 ∷ zeros 31)) ample)
+    && gives (λ b. same_bytes (drop 84 b) (8 ∷ 0x51 ∷ 7 ∷ zeros 65))
+    (encode_call (settings H 255) (replicate 126 (pos 0) ++ (pos 1000 ∷ pos 0 ∷ [])) 2 8000 ample)
+
+abbrev pub more : Bool
+more = slips && limits && interleaved && places
+
+-- ---- every refusal of every call, by call and number: inputs that give it, with the numbers returned; their neighbours across the
+-- bound, which are accepted; and last its place in the order, an input that has the next cause too, or every later one
+
+-- the encoder's checks, from their numbers alone: channels, rate, samples in all, bytes needed, and room; they are those of encode_call
+-- (encode_by_numbers in proofs/Claims.antt)
+abbrev pub encode_checks : {A : Type 0} → ℕ → ℕ → ℕ → ℕ → ℕ → Outcome A → Outcome A
+encode_checks channels rate count needed room rest =
+    need (channels_fit (version_for channels) channels) 1 (channels ∷ [])
+    ⟫ refuse_if (eqb rate 0) 2 []
+    ⟫ need (eqb (count % channels) 0) 3 []
+    ⟫ refuse_if (too_many (count / channels)) 4 []
+    ⟫ refuse_if (ltb room needed) 13 (needed ∷ [])
+    ⟫ rest
+
+-- the encoder, by its numbers. 12884901889 samples have causes 3 and 4 in stereo,
+-- and would in three channels
+abbrev encoding : ℕ → ℕ → ℕ → ℕ → ℕ → Outcome ℕ
+encoding channels rate count needed room = encode_checks channels rate count needed room ⟫ result needed
+
+abbrev encode1 : Bool
+encode1 =
+    refuses 1 (0 ∷ []) (encoding 0 1 0 1 1) && refuses 1 (3 ∷ []) (encoding 3 1 3 1 1) && refuses 1 (255 ∷ []) (encoding 255 1 0 1 1)
+    && accepts (encoding 1 1 3 1 1) && accepts (encoding 2 1 2 1 1)
+    && refuses 1 (3 ∷ []) (encoding 3 0 12884901889 1 0)
+
+abbrev encode2 : Bool
+encode2 =
+    refuses 2 [] (encoding 1 0 1 1 1) && refuses 2 [] (encoding 2 0 2 1 1)
+    && accepts (encoding 1 1 1 1 1) && accepts (encoding 2 4294967295 2 1 1)
+    && refuses 2 [] (encoding 2 0 12884901889 1 0)
+
+abbrev encode3 : Bool
+encode3 =
+    refuses 3 [] (encoding 2 1 1 1 1) && refuses 3 [] (encoding 2 1 3 1 1)
+    && accepts (encoding 2 1 0 1 1) && accepts (encoding 2 1 2 1 1) && accepts (encoding 1 1 1 1 1)
+    && refuses 3 [] (encoding 2 1 12884901889 1 0)
+
+abbrev encode4 : Bool
+encode4 =
+    refuses 4 [] (encoding 1 1 4294967296 1 1) && refuses 4 [] (encoding 2 1 8589934592 1 1)
+    && accepts (encoding 1 1 4294967295 1 1) && accepts (encoding 2 1 8589934590 1 1)
+    && refuses 4 [] (encoding 1 1 4294967296 1 0)
+
+-- 13, the last: by numbers, in whole calls, and the bytes needed for the most samples
+abbrev most : ℕ → Variant → Header
+most channels variant = record { version = 3; variant = variant; channels = channels; rate = 1; samples = 4294967295 }
+
+abbrev encode13 : Bool
+encode13 =
+    let mono : ℕ → Outcome (List ℕ) = encode_call (settings H 255) (pos 0 ∷ []) 1 8000 in
+    let stereo : ℕ → Outcome (List ℕ) = encode_call (settings L 255) (pos 0 ∷ pos 0 ∷ []) 2 8000 in
+    refuses 13 (2 ∷ []) (encoding 1 1 1 2 1) && gives (eqb 2) (encoding 1 1 1 2 2)
+    && refuses 13 (50 ∷ []) (mono 49) && gives (λ b. eqb (length b) 50) (mono 50)
+    && refuses 13 (68 ∷ []) (stereo 67) && gives (λ b. eqb (length b) 68) (stereo 68)
+    && eqb (stream_length (most 1 H)) 2317918906 && eqb (stream_length (most 2 LPlus)) 3545052436
+
+-- inspection: an empty stream of version 3
+abbrev empty : List ℕ
+empty = head 3 0
+
+abbrev inspect5 : Bool
+inspect5 =
+    inspect_refused [] 5 [] && inspect_refused (take 15 empty) 5 [] && inspects empty 3 0 1 8000 0
+    && inspect_refused (take 15 (changed 0 82 empty)) 5 []
+
+abbrev inspect6 : Bool
+inspect6 =
+    inspect_refused (changed 0 82 empty) 6 [] && inspect_refused (changed 1 82 empty) 6 []
+    && inspect_refused (changed 2 82 empty) 6 [] && inspect_refused (changed 3 82 empty) 6 []
+    && inspect_refused (changed 3 82 (changed 4 4 empty)) 6 []
+
+abbrev inspect7 : Bool
+inspect7 =
+    inspect_refused (changed 4 0 empty) 7 (0 ∷ []) && inspect_refused (changed 4 4 empty) 7 (4 ∷ [])
+    && inspect_refused (changed 4 255 empty) 7 (255 ∷ [])
+    && inspects (changed 4 1 empty) 1 0 1 8000 0 && inspects (changed 4 2 empty) 2 0 1 8000 0
+    && inspect_refused (changed 4 4 (changed 5 3 empty)) 7 (4 ∷ [])
+
+abbrev inspect8 : Bool
+inspect8 =
+    inspect_refused (changed 5 3 empty) 8 (3 ∷ []) && inspect_refused (changed 5 255 empty) 8 (255 ∷ [])
+    && inspects (changed 5 1 empty) 3 1 1 8000 0 && inspects (changed 5 2 empty) 3 2 1 8000 0
+    && inspect_refused (changed 5 3 (changed 6 3 empty)) 8 (3 ∷ [])
+
+abbrev inspect1 : Bool
+inspect1 =
+    inspect_refused (changed 6 0 empty) 1 (0 ∷ []) && inspect_refused (changed 6 3 empty) 1 (3 ∷ [])
+    && inspect_refused (changed 6 255 empty) 1 (255 ∷ []) && inspects (changed 6 2 empty) 3 0 2 8000 0
+    && inspect_refused (changed 6 3 (changed 7 1 empty)) 1 (3 ∷ [])
+
+abbrev no_rate : List ℕ
+no_rate = changed 8 0 (changed 9 0 empty)
+
+abbrev inspect9 : Bool
+inspect9 =
+    inspect_refused (changed 7 1 empty) 9 (1 ∷ []) && inspect_refused (changed 7 255 empty) 9 (255 ∷ [])
+    && inspect_refused (changed 7 1 no_rate) 9 (1 ∷ [])
+
+-- any of the rate's four bytes will do
+abbrev inspect2 : Bool
+inspect2 =
+    inspect_refused no_rate 2 []
+    && inspects (changed 8 1 no_rate) 3 0 1 1 0 && inspects (changed 9 1 no_rate) 3 0 1 256 0
+    && inspects (changed 10 1 no_rate) 3 0 1 65536 0 && inspects (changed 11 1 no_rate) 3 0 1 16777216 0
+    && inspect_refused (no_rate ++ (0 ∷ [])) 2 []
+
+-- the expected length by version, variant and channels, at one frame and one sample more, and by each byte of the sample count
+abbrev expects : ℕ → ℕ → ℕ → ℕ → ℕ → Bool
+expects version variant channels samples size =
+    inspect_refused (changed 5 variant (changed 6 channels (head version samples))) 10 (size ∷ 16 ∷ [])
+
+abbrev inspect10 : Bool
+inspect10 =
+    let silence = zeros 33 in
+    inspect_refused (head 3 1 ++ silence) 10 (50 ∷ 49 ∷ []) && inspect_refused (head 3 1 ++ (0 ∷ 0 ∷ silence)) 10 (50 ∷ 51 ∷ [])
+    && inspects (head 3 1 ++ (0 ∷ silence)) 3 0 1 8000 1
+    && expects 1 0 1 64 49 && expects 1 1 1 64 41 && expects 1 2 1 64 41 && expects 1 0 2 65 148
+    && expects 2 0 1 64 49 && expects 2 1 1 64 41 && expects 2 2 1 64 41 && expects 2 1 2 65 116
+    && expects 3 0 1 63 50 && expects 3 1 1 63 42 && expects 3 2 1 63 42 && expects 3 2 2 64 120
+    && inspect_refused (changed 13 1 empty) 10 (186 ∷ 16 ∷ []) && inspect_refused (changed 14 1 empty) 10 (35410 ∷ 16 ∷ [])
+    && inspect_refused (changed 15 1 empty) 10 (9054420 ∷ 16 ∷ [])
+    && inspect_refused (head 3 1 ++ (0 ∷ 89 ∷ silence)) 10 (50 ∷ 51 ∷ [])
+
+-- an index of 88 passes and 89 does not; versions 1 and 2 have none. The fragments come in file order: 12 in the first counts
+-- before 11 in the second
+abbrev inspect11 : Bool
+inspect11 =
+    let codes = zeros 32 in
+    inspect_refused (head 3 1 ++ (8 ∷ 89 ∷ codes)) 11 (89 ∷ []) && inspect_refused (head 3 1 ++ (8 ∷ 255 ∷ codes)) 11 (255 ∷ [])
+    && inspects (head 3 1 ++ (8 ∷ 88 ∷ codes)) 3 0 1 8000 1
+    && inspects (head 2 64 ++ (8 ∷ 89 ∷ zeros 31)) 2 0 1 8000 64
+    && inspect_refused (head 3 64 ++ (8 ∷ 0 ∷ codes) ++ (8 ∷ 89 ∷ codes)) 11 (89 ∷ [])
+    && inspect_refused (head 3 64 ++ (8 ∷ 0 ∷ replicate 32 255) ++ (8 ∷ 89 ∷ codes)) 12 []
+    && inspect_refused (head 3 1 ++ (8 ∷ 89 ∷ 0x17 ∷ zeros 31)) 11 (89 ∷ [])
+
+-- unused bits: all but the codes of the frame's own samples, in each channel's fragment
+abbrev inspect12 : Bool
+inspect12 =
+    let one : List ℕ = 8 ∷ 88 ∷ 15 ∷ zeros 31 in
+    let more : List ℕ = 8 ∷ 88 ∷ 16 ∷ zeros 31 in
+    let lastByte : ℕ → List ℕ = λ b. 8 ∷ 88 ∷ (replicate 31 255 ++ (b ∷ [])) in
+    let lastOfL : ℕ → List ℕ = λ b. 8 ∷ 88 ∷ (replicate 23 255 ++ (b ∷ [])) in
+    inspect_refused (head 3 1 ++ more) 12 [] && inspects (head 3 1 ++ one) 3 0 1 8000 1
+    && inspect_refused (head 3 1 ++ lastByte 0) 12 []
+    && inspect_refused (head 3 63 ++ lastByte 16) 12 [] && inspects (head 3 63 ++ lastByte 15) 3 0 1 8000 63
+    && inspect_refused (changed 5 1 (head 3 63) ++ lastOfL 32) 12 [] && inspects (changed 5 1 (head 3 63) ++ lastOfL 31) 3 1 1 8000 63
+    && inspect_refused (head 2 1 ++ (8 ∷ 16 ∷ zeros 31)) 12 [] && inspects (head 2 64 ++ (8 ∷ replicate 32 255)) 2 0 1 8000 64
+    && inspect_refused (head 3 64 ++ lastByte 15 ++ more) 12 [] && inspects (head 3 64 ++ lastByte 15 ++ one) 3 0 1 8000 64
+    && inspect_refused (stereo 3 1 ++ one ++ more) 12 [] && inspects (stereo 3 1 ++ one ++ one) 3 0 2 8000 1
+    && inspect_refused (stereo 3 127 ++ zeros 170 ++ more) 12 [] && inspects (stereo 3 127 ++ zeros 204) 3 0 2 8000 127
+
+-- the whole-stream decoder: what inspection refuses (decode_refuses in proofs/Claims.antt), then 13
+abbrev decode13 : Bool
+decode13 =
+    let silence = zeros 34 in
+    let mono = head 3 1 ++ silence in
+    let both = stereo 3 1 ++ silence ++ silence in
+    let exactly : ℕ → Sound → Bool = λ n (s : Sound). eqb (length s.samples) n in
+    refuses 13 (1 ∷ []) (decode_call mono 0) && gives (exactly 1) (decode_call mono 1)
+    && refuses 13 (2 ∷ []) (decode_call both 1) && gives (exactly 2) (decode_call both 2)
+    && gives (exactly 0) (decode_call empty 0)
+    && refuses 12 [] (decode_call (head 3 1 ++ replicate 34 16) 0)
+
+-- the fragment decoder: a fragment of zeros of that size, for so many samples
+abbrev playing : ℕ → Variant → ℕ → ℕ → Outcome DecodedFragment
+playing version variant size n = fragment_call version variant zero_state (zeros size) n
+
+abbrev fragment7 : Bool
+fragment7 =
+    refuses 7 (0 ∷ []) (playing 0 H 33 1) && refuses 7 (4 ∷ []) (playing 4 H 34 1) && refuses 7 (255 ∷ []) (playing 255 H 34 1)
+    && accepts (playing 1 H 33 1) && accepts (playing 2 H 33 1) && accepts (playing 3 H 34 1)
+    && refuses 7 (4 ∷ []) (fragment_call 4 H (record { predictor = pos 32768; index = 89 }) [] 100)
+
+-- one byte less, one more, one sample more; the exact size, with the most samples and with none
+abbrev fits : ℕ → Variant → ℕ → ℕ → Bool
+fits version variant size n =
+    refuses 14 [] (playing version variant (size - 1) 1) && refuses 14 [] (playing version variant (suc size) 1)
+    && refuses 14 [] (playing version variant size (suc n))
+    && accepts (playing version variant size n) && accepts (playing version variant size 0)
+
+abbrev fragment14 : Bool
+fragment14 =
+    fits 1 H 33 64 && fits 1 L 25 64 && fits 1 LPlus 25 64 && fits 2 H 33 64 && fits 2 L 25 64 && fits 2 LPlus 25 64
+    && fits 3 H 34 63 && fits 3 L 26 63 && fits 3 LPlus 26 63
+    && refuses 14 [] (fragment_call 2 H (record { predictor = pos 32768; index = 89 }) [] 1)
+
+-- versions 1 and 2 alone, and the state at each of its limits
+abbrev from : ℕ → ℤ → ℕ → Outcome DecodedFragment
+from version predictor index =
+    fragment_call version L (record { predictor = predictor; index = index }) (zeros (fragment_size version L)) 1
+
+abbrev fragment15 : Bool
+fragment15 =
+    refuses 15 [] (from 1 (pos 32768) 0) && refuses 15 [] (from 2 (pos 32768) 0) && accepts (from 1 (pos 32767) 0)
+    && refuses 15 [] (from 1 (negsuc 32768) 0) && refuses 15 [] (from 2 (negsuc 32768) 0) && accepts (from 2 (negsuc 32767) 0)
+    && refuses 15 [] (from 1 (pos 0) 89) && refuses 15 [] (from 2 (pos 0) 89) && accepts (from 1 (pos 0) 88)
+    && refuses 15 [] (from 2 (pos 2147483647) 0) && refuses 15 [] (from 2 (negsuc 2147483647) 18446744073709551615)
+    && accepts (from 3 (pos 32768) 0) && accepts (from 3 (negsuc 32768) 89)
+
+abbrev pub pinned : Bool
+pinned =
+    encode1 && encode2 && encode3 && encode4 && encode13
+    && inspect5 && inspect6 && inspect7 && inspect8 && inspect1 && inspect9 && inspect2 && inspect10 && inspect11 && inspect12
+    && decode13 && fragment7 && fragment14 && fragment15
