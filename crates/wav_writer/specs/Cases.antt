@@ -1,6 +1,6 @@
 -- Each refusal of the writer, as a test that computes: inputs that give it, the neighbours across its bound, which don't, and its
 -- place in the order: where later causes hold too it is still this one. The expectations are 01's. Assumes nothing.
-use Rattle.std.specs.Prelude.{ℕ, ◌+◌, ◌*◌, Bool, ◌&&◌, List, [], ◌∷◌, negsuc}
+use Rattle.std.specs.Prelude.{ℕ, ◌+◌, ◌*◌, Bool, ◌&&◌, [], ◌∷◌, negsuc}
 use Rattle.outcome.specs.Outcome.{Outcome, result}
 use Rattle.outcome.specs.Tests.{gives, accepts, refuses}
 use Rattle.lists.specs.Tables.{every}

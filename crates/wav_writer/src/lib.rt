@@ -1,5 +1,6 @@
 // Writing of WAV files: a 44-byte header, then the samples.
 #![tactic(auto)]
+
 ghost use Rattle.std.specs.Prelude.{◌≡◌, ◌++◌, ◌+◌, ◌*◌, ◌≤◌, length, drop};
 ghost use Rattle.wav_format.specs.Wave.{frame_bytes};
 ghost use Rattle.wav_writer.specs.Writer.{wave_header, sample_bytes, AsWritten};
