@@ -13,6 +13,9 @@ use Rattle.format.specs.Decode.{DecodedFragment, fragment_call, state_left, move
 use Rattle.format.specs.declared.State.{State}
 use Rattle.format.specs.declared.Variant.{Variant}
 use Rattle.format.proofs.Range.{unmoved}
+use Rattle.wav_format.specs.Answers.{values_of}
+use Rattle.wav_format.specs.declared.WaveError.{WaveError}
+use Rattle.wav_format.specs.declared.WaveError.TheVariants.{NotWave, RiffEnd, ChunkHeader, ChunkEnd, FormatChunk, DataChunk, NoFormat, Encoding, Channels, ZeroRate, ByteRate, Inconsistent, NoData, PartialFrame, WriterChannels, DataSize, RiffSize, WriterByteRate, OutputTooShort, StrictFormat, StrictOrder, StrictEnd}
 use Rattle.postlapse.specs.Answers.{answer_of, with_state}
 use Rattle.postlapse.specs.Promises.{fragment_for_c, Fills, Plays, PlaysByValue}
 use Rattle.postlapse.specs.declared.Answer.{Answer}
@@ -84,3 +87,30 @@ pub plays_by_value : (version variant : ℕ) (fragment : List ℕ) {s t next : S
     → Plays (fragment_for_c version variant t fragment (length out)) t out answer next output
     → PlaysByValue (fragment_for_c version variant s fragment (length out)) s out (with_state answer next) output
 plays_by_value version variant fragment e p = record { answered = rw (← e, p.answered, p.state_after); output_left = rw (← e) p.output_left }
+
+-- ---- WAV: only one cause returns a number
+
+pub no_number_but : (e : WaveError) → ((n : ℕ) → e ≡ OutputTooShort n → ⊥) → values_of e ≡ []
+unfolding values_of
+no_number_but NotWave k = refl
+no_number_but RiffEnd k = refl
+no_number_but ChunkHeader k = refl
+no_number_but ChunkEnd k = refl
+no_number_but FormatChunk k = refl
+no_number_but DataChunk k = refl
+no_number_but NoFormat k = refl
+no_number_but Encoding k = refl
+no_number_but Channels k = refl
+no_number_but ZeroRate k = refl
+no_number_but ByteRate k = refl
+no_number_but Inconsistent k = refl
+no_number_but NoData k = refl
+no_number_but PartialFrame k = refl
+no_number_but WriterChannels k = refl
+no_number_but DataSize k = refl
+no_number_but RiffSize k = refl
+no_number_but WriterByteRate k = refl
+no_number_but StrictFormat k = refl
+no_number_but StrictOrder k = refl
+no_number_but StrictEnd k = refl
+no_number_but (OutputTooShort n) k = absurd (k n refl)
