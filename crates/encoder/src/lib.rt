@@ -1,5 +1,6 @@
 // The encoder of whole streams: the header, and each frame's fragments, left before right.
 #![tactic(auto)]
+
 ghost use Rattle.std.specs.Prelude.{◌≡◌, ◌++◌, ◌+◌, ◌-◌, ◌*◌, ◌/◌, ◌<◌, ◌≤◌, min, pos, length, take, drop, get_or};
 ghost use Rattle.lists.specs.Lists.{tabulate};
 ghost use Rattle.format.specs.Tables as tables;

@@ -1,0 +1,48 @@
+-- `encoder::encode` meets its contract. Assumes nothing.
+use mathlib.Core.Path.{ap, ◌∙◌}
+use native.Mathlib.Omega.{arith}
+use Rattle.format.proofs.Sizes.{channels_few}
+use Rattle.format.specs.Answers.{number_of, values_of}
+use Rattle.format.specs.Encode.{header_written, too_many, encode_call}
+use Rattle.format.specs.Layout.{frames, stream_length}
+use Rattle.format.specs.declared.Error.TheVariants as E
+use Rattle.outcome.proofs.Flags.{via}
+use Rattle.outcome.proofs.Laws.{checks}
+use Rattle.encoder.proofs.Encoding.{as_refused, as_written, too_short, long_enough, headed_length}
+use Rattle.encoder.proofs.encode.Goals as goal
+
+pub returns-then-not-channels_fit : goal.returns-then-not-channels_fit
+unfolding encode_call number_of values_of
+returns-then-not-channels_fit c = as_refused _ _ _ _ _ (E.InvalidChannels _) (search checks depth 12)
+
+pub returns-then-rate-eq0 : goal.returns-then-rate-eq0
+unfolding encode_call number_of values_of
+returns-then-rate-eq0 c = as_refused _ _ _ _ _ E.ZeroSampleRate (search checks depth 12)
+
+pub nonzero_rem-pcm : goal.nonzero_rem-pcm
+nonzero_rem-pcm c = (channels_few _ _ (via _ _ _ c.channels_fit.ensures c.if-not-channels_fit.false)).0
+
+pub returns-then-pcm-count-ne0 : goal.returns-then-pcm-count-ne0
+unfolding encode_call number_of values_of
+returns-then-pcm-count-ne0 c = as_refused _ _ _ _ _ E.MisalignedInterleavedSamples (search checks depth 12)
+
+pub nonzero_div-samples : goal.nonzero_div-samples
+nonzero_div-samples c = (channels_few _ _ (via _ _ _ c.channels_fit.ensures c.if-not-channels_fit.false)).0
+
+pub returns-then-samples-gt4294967295 : goal.returns-then-samples-gt4294967295
+unfolding encode_call number_of values_of too_many
+returns-then-samples-gt4294967295 c = as_refused _ _ _ _ _ E.TooManySamples (search checks depth 12)
+
+pub returns-then-out-needed : goal.returns-then-out-needed
+unfolding header_written
+returns-then-out-needed c = as_refused _ _ _ _ _ (E.OutputTooShort _) (too_short c.args.settings _ _ _ _ (via _ _ _ c.channels_fit.ensures c.if-not-channels_fit.false) c.if-rate-eq0.false c.if-pcm-count-ne0.false c.if-samples-gt4294967295.false _ (c.stream_length-needed.ensures ∙ ap stream_length c.header_for-h.ensures) c.if-out-needed.true)
+
+pub encode_fragments-requires : goal.encode_fragments-requires
+unfolding frames
+encode_fragments-requires c =
+    let fit = channels_few _ _ (via _ _ _ c.channels_fit.ensures c.if-not-channels_fit.false) in
+    (fit.0, omega arith, c.if-samples-gt4294967295.false, rw c.header_for-h.ensures at (headed_length c.header_for-h.result c.args.out.now _ _ c.put_header.ensures c.stream_length-needed.ensures c.if-out-needed.false))
+
+pub returns : goal.returns
+unfolding header_written frames
+returns c = as_written _ _ _ _ _ _ _ _ _ (long_enough c.args.settings _ _ _ _ (via _ _ _ c.channels_fit.ensures c.if-not-channels_fit.false) c.if-rate-eq0.false c.if-pcm-count-ne0.false c.if-samples-gt4294967295.false _ (c.stream_length-needed.ensures ∙ ap stream_length c.header_for-h.ensures) c.if-out-needed.false) c.header_for-h.ensures c.stream_length-needed.ensures c.put_header.ensures c.encode_fragments.ensures

@@ -1,0 +1,45 @@
+use mathlib.Core.Path.{◌≡◌, refl}
+use native.Mathlib.Omega.{arith}
+use borrow.Author.Rules.{rules}
+use lib.ListN.{length, length-set}
+use Rattle.lists.specs.Lists.{tabulate}
+use Rattle.lists.proofs.ByIndex.{fill_next}
+use Rattle.signed.proofs.Laws.{back16}
+use Rattle.layout.proofs.Places.{Place, place_in}
+use Rattle.encoder.proofs.gather.Goals as goal
+use Rattle.encoder.proofs.gather.Goals.{In-loop-w}
+
+-- the place that a turn reads
+spot : (c : In-loop-w) → Place c.args.first c.loop-w.w c.args.channels c.args.channel (length c.args.pcm.now)
+spot c = place_in c.args.first c.loop-w.w c.args.n c.args.channels c.args.channel (length c.args.pcm.now) (search rules) (search rules) (search rules)
+
+pub loop-w-init : goal.loop-w-init
+unfolding tabulate
+loop-w-init c = (search rules, refl, refl)
+
+pub overflow_add-j : goal.overflow_add-j
+overflow_add-j c = let p = spot (goal.at.overflow_add-j c).In-loop-w in search rules
+
+pub overflow_mul-j : goal.overflow_mul-j
+overflow_mul-j c = let p = spot (goal.at.overflow_mul-j c).In-loop-w in search rules
+
+pub overflow_add-j-in-loop-w : goal.overflow_add-j-in-loop-w
+overflow_add-j-in-loop-w c = let p = spot (goal.at.overflow_add-j-in-loop-w c).In-loop-w in search rules
+
+pub offset_bounds-pcm-j : goal.offset_bounds-pcm-j
+offset_bounds-pcm-j c = let p = spot (goal.at.offset_bounds-pcm-j c).In-loop-w in search rules
+
+pub bounds-pcm-j : goal.bounds-pcm-j
+bounds-pcm-j c = let p = spot (goal.at.bounds-pcm-j c).In-loop-w in search rules
+
+pub loop-w-preserved : goal.loop-w-preserved
+loop-w-preserved c = (
+  search rules,
+  simp length-set c.loop-w.invariant.1,
+  fill_next _ _ _ _ (omega (arith, c.loop-w.invariant.1)) c.loop-w.invariant.2 (back16 _ c.x-1.given),
+)
+
+pub returns : goal.returns
+returns c =
+    let e : c.loop-w.w ≡ c.args.n = omega arith in
+    rw (← e) c.loop-w.invariant.2
