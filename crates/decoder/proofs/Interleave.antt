@@ -75,7 +75,10 @@ pub woven_more : {A : Type 0} (d : A) (o xs ys : List A) (first w : ℕ) {l : Li
 unfolding spread
 woven_more d o xs ys first w {l} {x} {y} e ex ey =
     let z : (first + w) * 2 + 0 ≡ (first + w) * 2 = omega arith in
-    rw (add-one w, e, ex, ey, z, spread-set d (spread d o xs first 2 0 w) ys first 2 1 w ((first + w) * 2) (get_or xs w d) (λ k m. omega arith))
+    let next : spread d o xs first 2 0 (suc w) ≡ set (spread d o xs first 2 0 w) ((first + w) * 2) (get_or xs w d) =
+    ap (λ j. set (spread d o xs first 2 0 w) j (get_or xs w d)) z in
+    rw (add-one w, e, ex, ey, spread-set d (spread d o xs first 2 0 w) ys first 2 1 w ((first + w) * 2) (get_or xs w d) (λ k m. omega arith))
+    (ap (λ t. set (spread d t ys first 2 1 w) ((first + w) * 2 + 1) (get_or ys w d)) (sym next))
 
 -- only the samples that are put count
 pub spread-take : {A : Type 0} (d : A) (o xs : List A) (first c ch n m : ℕ) → n ≤ m → spread d o (take m xs) first c ch n ≡ spread d o xs first c ch n

@@ -1,6 +1,7 @@
 // The decoder of whole streams: each fragment in file order, with one state for each channel. The tables of the steps are made once
 // and lent down.
 #![tactic(auto)]
+
 ghost use Rattle.std.specs.Prelude.{◌≡◌, ℕ, ◌+◌, ◌*◌, ◌/◌, ◌%◌, ◌<◌, ◌≤◌, pos, length, take};
 ghost use Rattle.format.specs.Layout.{frames, count, stream_length};
 ghost use Rattle.format.specs.Decode.{InRange};
