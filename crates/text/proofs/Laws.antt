@@ -3,13 +3,13 @@ use mathlib.Core.Path.{◌≡◌, refl, sym, ap, ◌∙◌}
 use mathlib.Core.Bool.{Bool, true, false}
 use mathlib.Core.List.{List, [], ◌++◌, append_assoc, append-nil}
 use Prim.Native.Nat.{ℕ, zero, suc, ◌+◌, ◌-◌, ◌/◌, ◌%◌, ◌^◌, ◌≤◌, ◌<◌}
-use native.Mathlib.Nat.{add-zero, le_of_eq, add_assoc, pow-suc, one-le-pow, pow-le-pow_right, mod-lt, div-lt_iff_lt-mul, le-div_iff_mul-le}
+use native.Mathlib.Nat.{add-zero, add_assoc, pow-suc, one-le-pow, pow-le-pow_right, mod-lt, div-lt_iff_lt-mul, le-div_iff_mul-le}
 use native.Mathlib.Omega.{arith}
 use lib.Dec.{ltb}
-use lib.ListN.{length, take, drop, length-append, length-take, length-drop, drop_of_length-le, take-append-drop}
-use lib.Seq.{take-length, take_at, drop-drop, drop-append-add, length-take-le}
+use lib.ListN.{length, take, drop, length-append, length-take, length-drop, take-append-drop}
+use lib.Seq.{take_at, drop-drop, drop-append-add, length-take-le}
 use borrow.Author.Tests.{lt-ltb, ltb-true, ltb-false}
-use Rattle.digits.proofs.Laws.{part_length, part_put}
+use Rattle.digits.proofs.Laws.{part_put}
 use Rattle.io.specs.Digits.{last_digits, IsDigitCount}
 use Rattle.text.specs.Text.{letters, digits_of, decimal, text_of, Extended, written, Put}
 use Rattle.text.specs.declared.Line.{Line}
@@ -112,12 +112,9 @@ module _ (out : List ℕ) (at : ℕ) (h : at ≤ length out) where
 
 -- a piece of n letters that was copied to the part from `at` to `at + n` of a list
 module _ (at n : ℕ) (l piece : List ℕ) (size : length piece ≡ n) (h : at + n ≤ length l) where
-  pub copied : {part : List ℕ} → part ≡ take (length piece) piece ++ drop (length piece) (take (at + n - at) (drop at l))
-      → take at l ++ (part ++ drop (at + n - at) (drop at l)) ≡ written l at piece
+  pub copied : {part : List ℕ} → part ≡ piece → take at l ++ (part ++ drop (at + n - at) (drop at l)) ≡ written l at piece
   unfolding written
-  copied {part} e =
-      let all : part ≡ piece = e ∙ rw (take-length piece, size, drop_of_length-le (take (at + n - at) (drop at l)) (le_of_eq (part_length at n l h)), append-nil) in
-      part_put at n l all ∙ rw size refl
+  copied all = part_put at n l all ∙ rw size refl
 
   pub front_copied : take (at + n) (written l at piece) ≡ take at l ++ piece
   unfolding written

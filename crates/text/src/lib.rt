@@ -1,5 +1,6 @@
 // Lines of text for the programs: made of words and decimal numbers, and put into a lent output.
 #![tactic(auto)]
+
 ghost use Rattle.std.specs.Prelude.{◌≡◌, [], ◌++◌, ◌+◌, ◌≤◌, length, take};
 ghost use Rattle.text.specs.Text.{decimal, text_of, Extended, Put};
 
