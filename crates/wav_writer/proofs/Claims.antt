@@ -13,12 +13,18 @@ use Rattle.outcome.proofs.Laws.{clear, pass}
 use Rattle.wav_format.specs.Wave.{frame_bytes}
 use Rattle.wav_format.proofs.Steps.{is_one_or_two}
 use Rattle.wav_writer.specs.Writer.{wave_bytes, write_call}
-use Rattle.wav_writer.specs.Cases.{pinned}
+use Rattle.wav_writer.specs.Cases.{write_checks, pinned}
 use Rattle.wav_writer.proofs as proofs
 
 -- the table's lines 34 to 37 and 13, with "It checks 34, 35, 36, 37, then 13": each number at its bound and in its place
 pub refusals_pinned : T pinned
 refusals_pinned = proofs.Checks.pinned_hold
+
+-- the checks of a call are those of its numbers, which the cases pin
+pub write_by_numbers : (channels rate : ℕ) (samples : List ℤ) (room : ℕ)
+    → write_call channels rate samples room ≡ write_checks channels rate (length samples) room (result (wave_bytes channels rate samples))
+unfolding write_call
+write_by_numbers channels rate samples room = refl
 
 -- and nothing else is refused ("it accepts rate 0 and a partial frame"): where no cause of the table holds the whole file is written
 pub write_accepts : (channels rate : ℕ) (samples : List ℤ) (room : ℕ) → 1 ≤ channels → channels ≤ 2 → 2 * length samples + 36 ≤ 4294967295
