@@ -1,6 +1,7 @@
 // The lines that the programs print: a refusal's, and those of the inspector's report. Each function answers a line whose text is the one
 // of its definition in specs/.
 #![tactic(auto)]
+
 ghost use Rattle.std.specs.Prelude.{◌≡◌, [], ◌∷◌, ◌+◌, ◌*◌, ◌<◌, ◌≤◌, length, take};
 ghost use Rattle.format.specs.Layout.{frames, stream_length};
 ghost use Rattle.text.specs.Text.{text_of, Extended};
