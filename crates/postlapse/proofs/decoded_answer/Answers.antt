@@ -1,5 +1,4 @@
 -- `postlapse::decoded_answer` meets its contract. Assumes nothing.
-use borrow.Author.Rules.{rules}
 use Rattle.format.specs.Answers.{decoded_of}
 use Rattle.postlapse.proofs.decoded_answer.Goals as goal
 

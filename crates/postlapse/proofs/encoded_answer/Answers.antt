@@ -1,5 +1,4 @@
 -- `postlapse::encoded_answer` meets its contract. Assumes nothing.
-use borrow.Author.Rules.{rules}
 use Rattle.format.specs.Answers.{encoded_of}
 use Rattle.postlapse.proofs.encoded_answer.Goals as goal
 

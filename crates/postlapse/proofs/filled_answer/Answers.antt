@@ -1,5 +1,4 @@
 -- `postlapse::filled_answer` meets its contract. Assumes nothing.
-use borrow.Author.Rules.{rules}
 use Rattle.wav_format.specs.Answers.{filled_of}
 use Rattle.postlapse.proofs.filled_answer.Goals as goal
 

@@ -1,5 +1,4 @@
 -- `postlapse::header_answer` meets its contract. Assumes nothing.
-use borrow.Author.Rules.{rules}
 use Rattle.postlapse.specs.Answers.{header_answer_of}
 use Rattle.postlapse.proofs.header_answer.Goals as goal
 

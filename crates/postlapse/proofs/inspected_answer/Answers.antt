@@ -1,5 +1,4 @@
 -- `postlapse::inspected_answer` meets its contract. Assumes nothing.
-use borrow.Author.Rules.{rules}
 use Rattle.format.specs.Answers.{inspected_of}
 use Rattle.postlapse.proofs.inspected_answer.Goals as goal
 

@@ -4,8 +4,7 @@ use Rattle.postlapse.specs.Promises.{fragment_for_c}
 use Rattle.outcome.proofs.Laws.{then_result, then_refused}
 use Rattle.format.specs.Decode.{called}
 use Rattle.format.specs.Answers.{variant_read_of}
-use mathlib.Core.Path.{refl, sym}
-use borrow.Author.Rules.{rules}
+use mathlib.Core.Path.{refl}
 use Rattle.postlapse.proofs.play.Goals as goal
 
 pub returns-in-Known : goal.returns-in-Known

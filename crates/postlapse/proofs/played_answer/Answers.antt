@@ -1,5 +1,4 @@
 -- `postlapse::played_answer` meets its contract. Assumes nothing.
-use borrow.Author.Rules.{rules}
 use Rattle.format.specs.Answers.{fragment_decoded_of}
 use Rattle.postlapse.proofs.played_answer.Goals as goal
 

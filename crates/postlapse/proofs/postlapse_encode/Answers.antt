@@ -4,7 +4,6 @@ use Rattle.postlapse.specs.Promises.{encode_for_c}
 use Rattle.outcome.proofs.Laws.{then_result, then_refused}
 use Rattle.format.specs.Answers.{variant_read_of}
 use mathlib.Core.Path.{refl}
-use borrow.Author.Rules.{rules}
 use Rattle.postlapse.proofs.postlapse_encode.Goals as goal
 
 pub returns-in-Known : goal.returns-in-Known

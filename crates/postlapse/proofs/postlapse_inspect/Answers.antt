@@ -1,6 +1,5 @@
 -- `postlapse::postlapse_inspect` meets its contract. Assumes nothing.
 use mathlib.Core.Path.{ap, ◌∙◌}
-use borrow.Author.Rules.{rules}
 use Rattle.postlapse.specs.Answers.{header_answer_of}
 use Rattle.postlapse.proofs.postlapse_inspect.Goals as goal
 

@@ -1,6 +1,5 @@
 -- `postlapse::postlapse_read_wave` meets its contract. Assumes nothing.
 use mathlib.Core.Path.{ap, ◌∙◌}
-use borrow.Author.Rules.{rules}
 use Rattle.postlapse.specs.Answers.{wave_answer_of}
 use Rattle.postlapse.proofs.postlapse_read_wave.Goals as goal
 

@@ -1,6 +1,5 @@
 -- `postlapse::postlapse_write_wave` meets its contract. Assumes nothing.
 use mathlib.Core.Path.{refl}
-use borrow.Author.Rules.{rules}
 use Rattle.postlapse.proofs.Laws.{fills_as}
 use Rattle.postlapse.proofs.postlapse_write_wave.Goals as goal
 

@@ -1,5 +1,4 @@
 -- `postlapse::read_answer` meets its contract. Assumes nothing.
-use borrow.Author.Rules.{rules}
 use Rattle.wav_format.specs.Answers.{read_of}
 use Rattle.postlapse.specs.Answers.{wave_answer_of}
 use Rattle.postlapse.proofs.read_answer.Goals as goal

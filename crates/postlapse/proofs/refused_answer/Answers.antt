@@ -1,5 +1,4 @@
 -- `postlapse::refused_answer` meets its contract: the numbers that are returned, and 0 for the others. Assumes nothing.
-use borrow.Author.Rules.{rules}
 use Rattle.postlapse.specs.Answers.{answer_of}
 use Rattle.postlapse.proofs.refused_answer.Goals as goal
 

@@ -1,5 +1,4 @@
 -- `postlapse::refused_header` meets its contract. Assumes nothing.
-use borrow.Author.Rules.{rules}
 use Rattle.postlapse.specs.Answers.{answer_of, header_answer_of}
 use Rattle.postlapse.proofs.refused_header.Goals as goal
 

@@ -1,5 +1,4 @@
 -- `postlapse::refused_wave` meets its contract: only one cause returns a number. Assumes nothing.
-use borrow.Author.Rules.{rules}
 use Rattle.wav_format.specs.Answers.{number_of, values_of}
 use Rattle.postlapse.proofs.Laws.{no_number_but}
 use Rattle.postlapse.specs.Answers.{answer_of}
