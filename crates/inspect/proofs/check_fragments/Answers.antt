@@ -26,7 +26,7 @@ turn : (c : After-count_of)
     (c.loop-p.p / c.args.h.channels)
 turn c =
     turn_count c.args.h c.loop-p.p c.requires.0 c.fragment_count-fragments.ensures.0 c.frame_samples-whole.ensures.0
-    c.last_count-last.ensures.0 c.loop-p-test.true c.count_of.ensures.0
+    c.last_count-last.ensures.0 (omega arith) c.count_of.ensures.0
 
 pub fragment_checks-requires : goal.fragment_checks-requires
 fragment_checks-requires c = (
