@@ -50,6 +50,7 @@ pub fn header_line(h: Header) -> Line
 }
 
 // Internal: a line with the index field of a fragment more.
+#[tactic(auto, using(crate::proofs::Lines::index_shown, crate::proofs::Lines::index_hidden), unfolding(text::specs::Text::letters))]
 fn index_field(line: Line, version: u8, fragment: &[u8]) -> Line
     requires { (line.count + 20 ≤ 128) × (2 ≤ length fragment.now) }
     ensures { Extended line (index_field version fragment.now) result × (result.count ≤ line.count + 20) }
