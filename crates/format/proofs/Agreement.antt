@@ -5,7 +5,7 @@ use Prim.Native.Nat.{ℕ, zero, suc, ◌+◌, ◌*◌, ◌/◌, ◌%◌, ◌≤�
 use native.Mathlib.Omega.{arith}
 use borrow.Author.Tests.{le-ltb}
 use lib.Arith.{digits_lt, digits_div, digits_mod}
-use lib.IntN.{ℤ, pos}
+use lib.IntN.{pos}
 use lib.ListN.{length, get_or}
 use Rattle.outcome.specs.Outcome.{result, refused}
 use Rattle.outcome.proofs.Laws.{clear, cleared, then_result, then_refused}

@@ -7,7 +7,7 @@ use lib.Dec.{T, eqb, eqb→eq}
 use lib.IntN.{ℤ}
 use Rattle.outcome.specs.Outcome.{result}
 use Rattle.outcome.proofs.Tests.{gives_means}
-use Rattle.lists.specs.Tests.{eq_z, same_bytes, same_samples}
+use Rattle.lists.specs.Tests.{eq_z}
 use Rattle.lists.proofs.Tables.{left, right}
 use Rattle.lists.proofs.Tests.{eq_z_means, same_bytes_means, same_samples_means}
 use Rattle.format.specs.Layout.{variant_byte}

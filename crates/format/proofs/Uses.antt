@@ -25,7 +25,6 @@ use Rattle.format.proofs.Instance as here
 use Rattle.format.proofs.Claims as claims
 use Rattle.format.specs.declared.Variant.{Variant}
 use Rattle.format.specs.declared.Variant.TheVariants.{L}
-use Rattle.format.specs.declared.State.{State}
 use Rattle.format.specs.declared.Header.{Header}
 use Rattle.format.specs.declared.Settings.{Settings}
 use Rattle.format.specs.declared.Error.{Error}

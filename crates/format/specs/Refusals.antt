@@ -1,39 +1,37 @@
 -- What the worked cases leave open beside the further checks, and every refusal of every call: each a test that computes. Assumes nothing.
-use Rattle.std.specs.Prelude.{ℕ, zero, suc, ◌+◌, ◌-◌, ◌*◌, ◌/◌, ◌%◌, Bool, ◌&&◌, not, List, [], ◌∷◌, ◌++◌, eqb, ltb, ℤ, pos, negsuc, neg_ℤ, nat_abs, ◌+ℤ◌, length, take, drop, replicate}
+use Rattle.std.specs.Prelude.{ℕ, suc, ◌-◌, ◌/◌, ◌%◌, Bool, ◌&&◌, List, [], ◌∷◌, ◌++◌, eqb, ltb, ℤ, pos, negsuc, neg_ℤ, length, take, drop, replicate}
 use Rattle.outcome.specs.Outcome.{Outcome, result, need, refuse_if, ◌⟫◌}
 use Rattle.outcome.specs.Tests.{gives, accepts, refuses}
-use Rattle.lists.specs.Lists.{tabulate}
 use Rattle.lists.specs.Tests.{eq_z, same_bytes, same_samples}
 use Rattle.format.specs.Layout.{channels_fit, version_for, fragment_size, stream_length}
 use Rattle.format.specs.Step.{stepped}
-use Rattle.format.specs.Gain.{pregained, volume_of, normalised, output_gain}
-use Rattle.format.specs.Decode.{DecodedFragment, zero_state, Called, fragment_call, moves, called}
+use Rattle.format.specs.Gain.{volume_of, output_gain}
+use Rattle.format.specs.Decode.{DecodedFragment, zero_state, fragment_call}
 use Rattle.format.specs.Encode.{too_many, encode_call}
 use Rattle.format.specs.Inspect.{Sound, decode_call}
-use Rattle.format.specs.Tests.{is_state, ample, settings, encodes, inspects, inspect_refused, decodes, plays}
+use Rattle.format.specs.Tests.{is_state, ample, settings, inspects, inspect_refused, decodes}
 use Rattle.format.specs.declared.Variant.{Variant}
 use Rattle.format.specs.declared.Variant.TheVariants.{H, L, LPlus}
-use Rattle.format.specs.declared.State.{State}
 use Rattle.format.specs.declared.Header.{Header}
 
 -- slips seen in other players: L+ levels of version 1 in version 2; a later index winning a tie (starts 71 to 88 reach the same
 -- sum). Besides, with the Rust's answers: a start of 88; sums on normalised values, or of distances and not of their squares; a threshold
 -- that just fits, a half of a step that is just what is left, another part of a step than a quarter; bit 8 where input is the predictor;
 -- the higher of two codes that are equally near; the last code left out; the nearest before the clamp
-abbrev begins : Variant → List ℤ → List ℕ → Bool
-begins variant samples front =
+abbrev opens : Variant → List ℤ → List ℕ → Bool
+opens variant samples front =
     gives (λ b. same_bytes (take 3 (drop 16 b)) front) (encode_call (settings variant 255) samples 1 8000 ample)
 
-abbrev slips : Bool
-slips =
+abbrev further_slips : Bool
+further_slips =
     eq_z (stepped 2 LPlus zero_state 0).predictor (pos 1)
-    && begins H (pos 49 ∷ []) (1 ∷ 71 ∷ 7 ∷ []) && begins H (pos 79 ∷ []) (1 ∷ 88 ∷ 2 ∷ []) && begins H (pos 1 ∷ []) (1 ∷ 24 ∷ 7 ∷ [])
-    && begins H (neg_ℤ (pos 2035) ∷ pos 1058 ∷ []) (16 ∷ 86 ∷ 0x5c ∷ [])
-    && begins H (pos 3174 ∷ []) (25 ∷ 82 ∷ 7 ∷ []) && begins H (pos 741 ∷ neg_ℤ (pos 1652) ∷ []) (13 ∷ 88 ∷ 225 ∷ [])
-    && begins H (neg_ℤ (pos 2748) ∷ neg_ℤ (pos 474) ∷ []) (22 ∷ 83 ∷ 0x3e ∷ [])
-    && begins H (pos 0 ∷ pos 1 ∷ []) (1 ∷ 24 ∷ 0x70 ∷ []) && begins L (pos 0 ∷ pos 1 ∷ []) (1 ∷ 31 ∷ 0x18 ∷ [])
-    && begins L (negsuc 0 ∷ []) (1 ∷ 32 ∷ 7 ∷ [])
-    && begins LPlus (pos 89 ∷ pos 0 ∷ []) (1 ∷ 75 ∷ 0x33 ∷ [])
+    && opens H (pos 49 ∷ []) (1 ∷ 71 ∷ 7 ∷ []) && opens H (pos 79 ∷ []) (1 ∷ 88 ∷ 2 ∷ []) && opens H (pos 1 ∷ []) (1 ∷ 24 ∷ 7 ∷ [])
+    && opens H (neg_ℤ (pos 2035) ∷ pos 1058 ∷ []) (16 ∷ 86 ∷ 0x5c ∷ [])
+    && opens H (pos 3174 ∷ []) (25 ∷ 82 ∷ 7 ∷ []) && opens H (pos 741 ∷ neg_ℤ (pos 1652) ∷ []) (13 ∷ 88 ∷ 225 ∷ [])
+    && opens H (neg_ℤ (pos 2748) ∷ neg_ℤ (pos 474) ∷ []) (22 ∷ 83 ∷ 0x3e ∷ [])
+    && opens H (pos 0 ∷ pos 1 ∷ []) (1 ∷ 24 ∷ 0x70 ∷ []) && opens L (pos 0 ∷ pos 1 ∷ []) (1 ∷ 31 ∷ 0x18 ∷ [])
+    && opens L (negsuc 0 ∷ []) (1 ∷ 32 ∷ 7 ∷ [])
+    && opens LPlus (pos 89 ∷ pos 0 ∷ []) (1 ∷ 75 ∷ 0x33 ∷ [])
 
 -- the clamps of predictor and index at their ends; peaks whose volume another divisor would round otherwise; both output gains at 255
 abbrev limits : Bool
@@ -47,8 +45,8 @@ abbrev zeros : ℕ → List ℕ
 zeros n = replicate n 0
 
 -- a stream's header: H, one channel, 8000 samples a second
-abbrev head : ℕ → ℕ → List ℕ
-head version samples = 83 ∷ 81 ∷ 86 ∷ 52 ∷ version ∷ 0 ∷ 1 ∷ 0 ∷ 64 ∷ 31 ∷ 0 ∷ 0 ∷ samples ∷ 0 ∷ 0 ∷ 0 ∷ []
+abbrev headed : ℕ → ℕ → List ℕ
+headed version samples = 83 ∷ 81 ∷ 86 ∷ 52 ∷ version ∷ 0 ∷ 1 ∷ 0 ∷ 64 ∷ 31 ∷ 0 ∷ 0 ∷ samples ∷ 0 ∷ 0 ∷ 0 ∷ []
 
 -- the same bytes but for one
 abbrev changed : ℕ → ℕ → List ℕ → List ℕ
@@ -56,7 +54,7 @@ changed at byte d = take at d ++ (byte ∷ drop (suc at) d)
 
 -- two channels of three samples, interleaved, with a state and a volume for each; the samples are the Rust's
 abbrev stereo : ℕ → ℕ → List ℕ
-stereo version samples = changed 6 2 (head version samples)
+stereo version samples = changed 6 2 (headed version samples)
 
 abbrev interleaved : Bool
 interleaved =
@@ -72,7 +70,7 @@ places =
     (encode_call (settings H 255) (replicate 126 (pos 0) ++ (pos 1000 ∷ pos 0 ∷ [])) 2 8000 ample)
 
 abbrev pub more : Bool
-more = slips && limits && interleaved && places
+more = further_slips && limits && interleaved && places
 
 -- ---- every refusal of every call, by call and number: inputs that give it, with the numbers returned; their neighbours across the
 -- bound, which are accepted; and last its place in the order, an input that has the next cause too, or every later one
@@ -132,7 +130,7 @@ encode13 =
 
 -- inspection: an empty stream of version 3
 abbrev empty : List ℕ
-empty = head 3 0
+empty = headed 3 0
 
 abbrev inspect5 : Bool
 inspect5 =
@@ -183,31 +181,31 @@ inspect2 =
 -- the expected length by version, variant and channels, at one frame and one sample more, and by each byte of the sample count
 abbrev expects : ℕ → ℕ → ℕ → ℕ → ℕ → Bool
 expects version variant channels samples size =
-    inspect_refused (changed 5 variant (changed 6 channels (head version samples))) 10 (size ∷ 16 ∷ [])
+    inspect_refused (changed 5 variant (changed 6 channels (headed version samples))) 10 (size ∷ 16 ∷ [])
 
 abbrev inspect10 : Bool
 inspect10 =
     let silence = zeros 33 in
-    inspect_refused (head 3 1 ++ silence) 10 (50 ∷ 49 ∷ []) && inspect_refused (head 3 1 ++ (0 ∷ 0 ∷ silence)) 10 (50 ∷ 51 ∷ [])
-    && inspects (head 3 1 ++ (0 ∷ silence)) 3 0 1 8000 1
+    inspect_refused (headed 3 1 ++ silence) 10 (50 ∷ 49 ∷ []) && inspect_refused (headed 3 1 ++ (0 ∷ 0 ∷ silence)) 10 (50 ∷ 51 ∷ [])
+    && inspects (headed 3 1 ++ (0 ∷ silence)) 3 0 1 8000 1
     && expects 1 0 1 64 49 && expects 1 1 1 64 41 && expects 1 2 1 64 41 && expects 1 0 2 65 148
     && expects 2 0 1 64 49 && expects 2 1 1 64 41 && expects 2 2 1 64 41 && expects 2 1 2 65 116
     && expects 3 0 1 63 50 && expects 3 1 1 63 42 && expects 3 2 1 63 42 && expects 3 2 2 64 120
     && inspect_refused (changed 13 1 empty) 10 (186 ∷ 16 ∷ []) && inspect_refused (changed 14 1 empty) 10 (35410 ∷ 16 ∷ [])
     && inspect_refused (changed 15 1 empty) 10 (9054420 ∷ 16 ∷ [])
-    && inspect_refused (head 3 1 ++ (0 ∷ 89 ∷ silence)) 10 (50 ∷ 51 ∷ [])
+    && inspect_refused (headed 3 1 ++ (0 ∷ 89 ∷ silence)) 10 (50 ∷ 51 ∷ [])
 
 -- an index of 88 passes and 89 does not; versions 1 and 2 have none. The fragments come in file order: 12 in the first counts
 -- before 11 in the second
 abbrev inspect11 : Bool
 inspect11 =
     let codes = zeros 32 in
-    inspect_refused (head 3 1 ++ (8 ∷ 89 ∷ codes)) 11 (89 ∷ []) && inspect_refused (head 3 1 ++ (8 ∷ 255 ∷ codes)) 11 (255 ∷ [])
-    && inspects (head 3 1 ++ (8 ∷ 88 ∷ codes)) 3 0 1 8000 1
-    && inspects (head 2 64 ++ (8 ∷ 89 ∷ zeros 31)) 2 0 1 8000 64
-    && inspect_refused (head 3 64 ++ (8 ∷ 0 ∷ codes) ++ (8 ∷ 89 ∷ codes)) 11 (89 ∷ [])
-    && inspect_refused (head 3 64 ++ (8 ∷ 0 ∷ replicate 32 255) ++ (8 ∷ 89 ∷ codes)) 12 []
-    && inspect_refused (head 3 1 ++ (8 ∷ 89 ∷ 0x17 ∷ zeros 31)) 11 (89 ∷ [])
+    inspect_refused (headed 3 1 ++ (8 ∷ 89 ∷ codes)) 11 (89 ∷ []) && inspect_refused (headed 3 1 ++ (8 ∷ 255 ∷ codes)) 11 (255 ∷ [])
+    && inspects (headed 3 1 ++ (8 ∷ 88 ∷ codes)) 3 0 1 8000 1
+    && inspects (headed 2 64 ++ (8 ∷ 89 ∷ zeros 31)) 2 0 1 8000 64
+    && inspect_refused (headed 3 64 ++ (8 ∷ 0 ∷ codes) ++ (8 ∷ 89 ∷ codes)) 11 (89 ∷ [])
+    && inspect_refused (headed 3 64 ++ (8 ∷ 0 ∷ replicate 32 255) ++ (8 ∷ 89 ∷ codes)) 12 []
+    && inspect_refused (headed 3 1 ++ (8 ∷ 89 ∷ 0x17 ∷ zeros 31)) 11 (89 ∷ [])
 
 -- unused bits: all but the codes of the frame's own samples, in each channel's fragment
 abbrev inspect12 : Bool
@@ -216,12 +214,12 @@ inspect12 =
     let more : List ℕ = 8 ∷ 88 ∷ 16 ∷ zeros 31 in
     let lastByte : ℕ → List ℕ = λ b. 8 ∷ 88 ∷ (replicate 31 255 ++ (b ∷ [])) in
     let lastOfL : ℕ → List ℕ = λ b. 8 ∷ 88 ∷ (replicate 23 255 ++ (b ∷ [])) in
-    inspect_refused (head 3 1 ++ more) 12 [] && inspects (head 3 1 ++ one) 3 0 1 8000 1
-    && inspect_refused (head 3 1 ++ lastByte 0) 12 []
-    && inspect_refused (head 3 63 ++ lastByte 16) 12 [] && inspects (head 3 63 ++ lastByte 15) 3 0 1 8000 63
-    && inspect_refused (changed 5 1 (head 3 63) ++ lastOfL 32) 12 [] && inspects (changed 5 1 (head 3 63) ++ lastOfL 31) 3 1 1 8000 63
-    && inspect_refused (head 2 1 ++ (8 ∷ 16 ∷ zeros 31)) 12 [] && inspects (head 2 64 ++ (8 ∷ replicate 32 255)) 2 0 1 8000 64
-    && inspect_refused (head 3 64 ++ lastByte 15 ++ more) 12 [] && inspects (head 3 64 ++ lastByte 15 ++ one) 3 0 1 8000 64
+    inspect_refused (headed 3 1 ++ more) 12 [] && inspects (headed 3 1 ++ one) 3 0 1 8000 1
+    && inspect_refused (headed 3 1 ++ lastByte 0) 12 []
+    && inspect_refused (headed 3 63 ++ lastByte 16) 12 [] && inspects (headed 3 63 ++ lastByte 15) 3 0 1 8000 63
+    && inspect_refused (changed 5 1 (headed 3 63) ++ lastOfL 32) 12 [] && inspects (changed 5 1 (headed 3 63) ++ lastOfL 31) 3 1 1 8000 63
+    && inspect_refused (headed 2 1 ++ (8 ∷ 16 ∷ zeros 31)) 12 [] && inspects (headed 2 64 ++ (8 ∷ replicate 32 255)) 2 0 1 8000 64
+    && inspect_refused (headed 3 64 ++ lastByte 15 ++ more) 12 [] && inspects (headed 3 64 ++ lastByte 15 ++ one) 3 0 1 8000 64
     && inspect_refused (stereo 3 1 ++ one ++ more) 12 [] && inspects (stereo 3 1 ++ one ++ one) 3 0 2 8000 1
     && inspect_refused (stereo 3 127 ++ zeros 170 ++ more) 12 [] && inspects (stereo 3 127 ++ zeros 204) 3 0 2 8000 127
 
@@ -229,13 +227,13 @@ inspect12 =
 abbrev decode13 : Bool
 decode13 =
     let silence = zeros 34 in
-    let mono = head 3 1 ++ silence in
+    let mono = headed 3 1 ++ silence in
     let both = stereo 3 1 ++ silence ++ silence in
     let exactly : ℕ → Sound → Bool = λ n (s : Sound). eqb (length s.samples) n in
     refuses 13 (1 ∷ []) (decode_call mono 0) && gives (exactly 1) (decode_call mono 1)
     && refuses 13 (2 ∷ []) (decode_call both 1) && gives (exactly 2) (decode_call both 2)
     && gives (exactly 0) (decode_call empty 0)
-    && refuses 12 [] (decode_call (head 3 1 ++ replicate 34 16) 0)
+    && refuses 12 [] (decode_call (headed 3 1 ++ replicate 34 16) 0)
 
 -- the fragment decoder: a fragment of zeros of that size, for so many samples
 abbrev playing : ℕ → Variant → ℕ → ℕ → Outcome DecodedFragment

@@ -4,7 +4,6 @@ use native.Mathlib.Omega.{arith}
 use native.Mathlib.Numerals.{add-one}
 use Rattle.digits.specs.Digits.{number}
 use Rattle.digits.proofs.Laws.{number-part}
-use borrow.Author.Rules.{rules}
 use Rattle.digits.proofs.le16.Goals as goal
 
 pub overflow_cast-result : goal.overflow_cast-result

@@ -6,7 +6,6 @@ use native.Mathlib.Numerals.{add-two}
 use lib.ListN.{take, drop}
 use Rattle.digits.specs.Digits.{number}
 use Rattle.digits.proofs.Laws.{number-part}
-use borrow.Author.Rules.{rules}
 use Rattle.digits.proofs.le32.Goals as goal
 
 pub overflow_mul-result : goal.overflow_mul-result

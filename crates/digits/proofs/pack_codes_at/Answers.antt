@@ -3,7 +3,6 @@ use mathlib.Core.Path.{ap, ◌∙◌}
 use Prim.Native.Nat.{ℕ}
 use Rattle.digits.specs.Digits.{packed}
 use Rattle.digits.proofs.Laws.{part_length, part_put}
-use borrow.Author.Rules.{rules}
 use Rattle.digits.proofs.pack_codes_at.Goals as goal
 
 pub returns : goal.returns

@@ -2,7 +2,6 @@
 use mathlib.Core.Path.{◌≡◌, sym, ap, ◌∙◌, subst}
 use Prim.Native.Nat.{ℕ, ◌*◌, ◌%◌, ◌^◌, ◌<◌}
 use native.Mathlib.Nat.{one-mul, mod-eq_of_lt}
-use borrow.Author.Rules.{rules}
 use lib.Pow.{pow_pos, pow-lt}
 use Rattle.digits.proofs.pow2.Goals as goal
 

@@ -4,7 +4,6 @@ use lib.Seq.{sets-eq}
 use native.Mathlib.Numerals.{add-one}
 use native.Mathlib.Omega.{arith}
 use Rattle.digits.specs.Digits.{digits}
-use borrow.Author.Rules.{rules}
 use Rattle.digits.proofs.put_le16.Goals as goal
 
 pub bounds-out-at-2 : goal.bounds-out-at-2

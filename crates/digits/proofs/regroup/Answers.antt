@@ -1,11 +1,9 @@
 use mathlib.Core.Path.{◌≡◌, refl}
-use Prim.Native.Nat.{ℕ, ◌-◌, ◌*◌, ◌^◌, ◌≤◌, ◌<◌}
+use Prim.Native.Nat.{ℕ, ◌*◌, ◌^◌, ◌≤◌, ◌<◌}
 use native.Mathlib.Nat.{le_of_lt, mul_comm, mul-le-mul_right, le-mul_of_pos_right, mod-lt}
 use native.Mathlib.Omega.{arith}
-use borrow.Author.Rules.{rules}
-use lib.ListN.{length}
 use lib.Pow.{pow_mono}
-use Rattle.digits.proofs.Regrouping.{Regrouped, regrouped_none, regrouped_lt, regrouped_digit, regrouped_write, regrouped_all}
+use Rattle.digits.proofs.Regrouping.{regrouped_none, regrouped_lt, regrouped_digit, regrouped_write, regrouped_all}
 use Rattle.digits.proofs.regroup.Goals as goal
 
 -- a byte, at a place of at most 8

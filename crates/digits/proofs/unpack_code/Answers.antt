@@ -4,7 +4,6 @@ use Prim.Native.Nat.{ℕ, ◌+◌, ◌*◌, ◌/◌, ◌%◌, ◌≤◌}
 use native.Mathlib.Nat.{mul-le-mul_right, mod-lt}
 use native.Mathlib.Omega.{arith}
 use lib.Pow.{pow_mono}
-use borrow.Author.Rules.{rules}
 use Rattle.digits.proofs.Laws.{Small, window, bits_lt}
 use Rattle.digits.specs.Digits.{number, bits_at, code_at}
 use Rattle.digits.proofs.unpack_code.Goals as goal

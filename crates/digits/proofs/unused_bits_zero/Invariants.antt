@@ -1,13 +1,8 @@
 -- `digits::unused_bits_zero` meets its contract: from byte `i` on no bit is set, down to the byte of the first unused bit. Assumes nothing.
-use mathlib.Core.Path.{◌≡◌, sym, ap, ap₂, ◌∙◌}
-use Prim.Native.Nat.{ℕ, ◌+◌, ◌-◌, ◌*◌, ◌/◌, ◌%◌, ◌^◌, ◌≤◌}
-use native.Mathlib.Omega.{arith}
-use borrow.Author.Rules.{rules}
-use lib.Dec.{eqb}
-use lib.ListN.{length, get_or}
-use lib.Pow.{shr-shr}
+use mathlib.Core.Path.{◌≡◌}
+use Prim.Native.Nat.{◌*◌, ◌/◌, ◌^◌, ◌≤◌}
+use lib.ListN.{length}
 use Rattle.digits.specs.Digits.{number}
-use Rattle.digits.proofs.Laws.{rest_end, rest_last, rest_less, rest_set}
 use Rattle.digits.proofs.unused_bits_zero.Given as goal
 
 abbrev pub invariant-loop-i : goal.invariant-loop-i

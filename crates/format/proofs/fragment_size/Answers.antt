@@ -1,6 +1,5 @@
 -- `format::fragment_size` meets its contract. Assumes nothing.
 use native.Mathlib.Omega.{arith}
-use borrow.Author.Rules.{rules}
 use borrow.Author.Tests.{le-leb, lt-leb}
 use Rattle.format.proofs.Sizes.{payload_few}
 use Rattle.format.proofs.fragment_size.Goals as goal

@@ -1,7 +1,6 @@
 -- `signed::lower` meets its contract. Assumes nothing.
 use native.Mathlib.Omega.{arith}
 use mir.Facts.{to_z-of_z}
-use borrow.Author.Rules.{rules}
 use Rattle.signed.proofs.Laws.{sfits32, up32}
 use Rattle.signed.proofs.Raised.{lower_is}
 use Rattle.signed.proofs.lower.Goals as goal

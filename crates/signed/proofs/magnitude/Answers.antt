@@ -1,7 +1,6 @@
 -- `signed::magnitude` meets its contract: below 0 the number is −(n + 1), so that −(x + 1) is n. Assumes nothing.
 use mathlib.Core.Path.{◌≡◌, ap, ◌∙◌}
 use native.Mathlib.Omega.{arith}
-use borrow.Author.Rules.{rules}
 use lib.IntN.{pos, negsuc, nat_abs, ◌+ℤ◌, ◌-ℤ◌}
 use lib.Signed.{mag}
 use mir.Facts.{to_z-of_z}

@@ -1,7 +1,6 @@
 -- `signed::sample_of` meets its contract: the number of the two bytes is read as 16 bits. Assumes nothing.
 use mathlib.Core.Path.{sym, ◌∙◌}
 use native.Mathlib.Omega.{arith}
-use borrow.Author.Rules.{rules}
 use mir.Facts.{to_z-of_z, to_z_pos}
 use mir.Syntax.{w16}
 use Rattle.signed.proofs.Twos.{of_low, high_is, high_fits}

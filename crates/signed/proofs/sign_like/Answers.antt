@@ -1,5 +1,4 @@
 -- `signed::sign_like` meets its contract. Assumes nothing.
-use borrow.Author.Rules.{rules}
 use mir.Facts.{to_z-of_z}
 use Rattle.signed.proofs.Laws.{back32}
 use Rattle.signed.proofs.sign_like.Goals as goal

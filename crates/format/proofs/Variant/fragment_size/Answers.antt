@@ -1,6 +1,5 @@
 -- `format::Variant::fragment_size` meets its contract. Assumes nothing.
 use native.Mathlib.Omega.{arith}
-use borrow.Author.Rules.{rules}
 use Rattle.format.proofs.Sizes.{payload_few}
 use Rattle.format.proofs.Variant.fragment_size.Goals as goal
 
