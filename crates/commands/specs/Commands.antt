@@ -1,5 +1,5 @@
 -- What the two programs print for what they read. Assumes nothing.
-use Rattle.std.specs.Prelude.{ℕ, ◌*◌, List, [], ◌∷◌, ◌++◌, ltb, ℤ, length, get_or, drop}
+use Rattle.std.specs.Prelude.{ℕ, ◌*◌, List, [], ◌++◌, ltb, ℤ, length, get_or, drop}
 use Rattle.outcome.specs.Outcome.{Outcome, result, refused, refuse_if, ◌⟫◌, and_then, on_result}
 use Rattle.lists.specs.Lists.{joined}
 use Rattle.format.specs.Layout.{variant_of, frames, stream_length}

@@ -1,5 +1,6 @@
 // What the two programs print: the converter's stream, the inspector's report, and the line of a refusal.
 #![tactic(auto)]
+
 ghost use Rattle.std.specs.Prelude.{◌≡◌, [], ◌∷◌, ◌+◌, ◌*◌, ◌/◌, ◌<◌, ◌≤◌, length, take};
 ghost use Rattle.lists.specs.Lists.{joined};
 ghost use Rattle.format.specs.Layout.{frames, stream_length};
