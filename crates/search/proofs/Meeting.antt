@@ -16,7 +16,7 @@ use Rattle.format.specs.declared.Settings.{Settings}
 use Rattle.format.specs.declared.State.{State}
 use Rattle.format.proofs.Range.{start_range, stepped_range}
 use Rattle.search.specs.Search.{key, mark_of, marks_of, Unmarked, Rival}
-use Rattle.search.proofs.Summed.{Summed, rises}
+use Rattle.search.proofs.Summed.{Summed, rises, over_limit}
 
 -- ---- a state and its key
 
@@ -70,6 +70,10 @@ module _ (k : Settings) (v : ℕ) (xs : List ℤ) (index n : ℕ) where
             fill_next (λ i. mark_of (trial_to k v xs index i)) trace i (sum * 8388608 + key') (omega (arith, d.room)) d.marked
             (rw (e, d.summed.state, d.summed.total));
       }
+
+  -- the sum so far is at most the whole
+  pub stopped : {i sum : ℕ} {s : State} {trace : List ℕ} → Traced i s sum trace → sum ≤ (trial_to k v xs index n).sum
+  stopped d = over_limit _ _ _ _ _ d.summed (omega arith)
 
   -- met at i samples
   pub met : {limit tie i : ℕ} {marks : List ℕ} {s : State} {sum key' : ℕ} → Rival k v xs index n limit tie marks → Summed k v xs index n i s sum

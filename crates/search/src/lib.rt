@@ -68,6 +68,7 @@ fn meets(mark: u64, key: u64, tie: u64, sum: u64) -> bool
 
 // Internal: the sum of the trial of the first `count` samples from a start index, its marks left in `trace`. It is given up, with the
 // limit as its answer, where the sum reaches the limit, and where it meets the marked trial: from there on the two go alike.
+#[tactic(auto, using(crate::proofs::Meeting::stopped))]
 fn trial_sum(
     steps: &[i32; 89],
     table: &[u32; 356],

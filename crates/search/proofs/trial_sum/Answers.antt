@@ -12,24 +12,13 @@ use Rattle.lists.proofs.ByIndex.{mapped_at}
 use Rattle.signed.proofs.Laws.{back16}
 use Rattle.format.proofs.Range.{stepped_range}
 use Rattle.format.specs.Gain.{normalised}
-use Rattle.search.proofs.Summed.{summed_none, summed_more, summed_all, given_up, over_limit}
+use Rattle.search.proofs.Summed.{summed_none, summed_more, summed_all, given_up}
 use Rattle.search.proofs.Meeting.{traced_none, traced_more, met}
 use Rattle.search.proofs.trial_sum.Goals as goal
 
 pub loop-i-init : goal.loop-i-init
 loop-i-init c =
     traced_none _ _ _ _ _ (summed_none _ _ _ _ _ c.fragment_start-state.ensures) c.requires.table_value.2
-
-pub returns-then-limit-sum : goal.returns-then-limit-sum
-returns-then-limit-sum c =
-    let t = c.loop-i.invariant in
-    let o : c.args.limit ≤ c.loop-i.sum = omega (arith, c.if-limit-sum.true) in
-    let h = over_limit _ _ _ _ _ t.summed o in
-    record {
-      bounded = given_up _ _ _ _ _ h;
-      upper_bound = ((λ a b. omega (arith, t.summed.small)), t.room);
-      upper_bound_2 = λ l. absurd (omega arith);
-    }
 
 pub key_of-key-requires : goal.key_of-key-requires
 key_of-key-requires c = c.loop-i.invariant.summed.range
