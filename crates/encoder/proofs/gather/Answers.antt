@@ -1,7 +1,11 @@
 use mathlib.Core.Path.{◌≡◌, refl}
 use native.Mathlib.Omega.{arith}
 use borrow.Author.Rules.{rules}
-use lib.ListN.{length, length-set}
+use mir.Syntax.{w16}
+use mir.Val.{SFits}
+use Prim.Native.Nat.{◌+◌, ◌*◌}
+use lib.IntN.{pos}
+use lib.ListN.{length, get_or, length-set}
 use Rattle.lists.specs.Lists.{tabulate}
 use Rattle.lists.proofs.ByIndex.{fill_next}
 use Rattle.signed.proofs.Laws.{back16}
@@ -33,11 +37,13 @@ pub bounds-pcm-j : goal.bounds-pcm-j
 bounds-pcm-j c = let p = spot (goal.at.bounds-pcm-j c).In-loop-w in search rules
 
 pub loop-w-preserved : goal.loop-w-preserved
-loop-w-preserved c = (
-  search rules,
-  simp length-set c.loop-w.invariant.1,
-  fill_next _ _ _ _ (omega (arith, c.loop-w.invariant.1)) c.loop-w.invariant.2 (back16 _ c.x-1.given),
-)
+loop-w-preserved c =
+    let p = spot (goal.at.loop-w-preserved c).In-loop-w in
+    let e : SFits w16 (get_or c.args.pcm.now ((c.args.first + c.loop-w.w) * c.args.channels + c.args.channel) (pos 0)) = search rules in (
+      search rules,
+      simp length-set c.loop-w.invariant.1,
+      fill_next _ _ _ _ (omega (arith, c.loop-w.invariant.1)) c.loop-w.invariant.2 (back16 _ e.sfits),
+    )
 
 pub returns : goal.returns
 returns c =

@@ -46,17 +46,6 @@ overflow_mul-trace c = omega (arith, c.loop-i.invariant.summed.small)
 pub overflow_add-trace : goal.overflow_add-trace
 overflow_add-trace c = omega (arith, c.loop-i.invariant.summed.small, c.key_of-key.ensures.1)
 
-pub overflow_cast-target : goal.overflow_cast-target
-overflow_cast-target c = rw (back16 _ c.target-1.given) (record { sfits = omega (arith, c.target-1.given) })
-
-pub next_state-state-requires : goal.next_state-state-requires
-next_state-state-requires c = (
-  c.requires.steps_value.0,
-  c.requires.table_value.0,
-  c.loop-i.invariant.summed.range,
-  rw (to_z-of_z (overflow_cast-target c), back16 _ c.target-1.given) (omega (arith, c.target-1.given)),
-)
-
 pub squared_error-sum-requires : goal.squared_error-sum-requires
 squared_error-sum-requires c = rw c.next_state-state.ensures (stepped_range _ _ _ _).predictor
 
@@ -71,14 +60,15 @@ loop-i-preserved c =
     let a = c.args in
     let h : c.loop-i.i < a.count = c.loop-i-test.true in
     let f : SFits w16 (get_or a.targets.now c.loop-i.i (pos 0)) = search rules in
+    let e : SFits w16 (get_or a.xs.now c.loop-i.i (pos 0)) = search rules in
     let g : SFits w32 (to_z w16 (of_z w16 (get_or a.targets.now c.loop-i.i (pos 0)))) = rw (to_z-of_z f) (sfits_widen tt f) in
     let x = get_or-take a.count a.xs.now c.loop-i.i (pos 0) h in
     let y =
     mapped_at (normalised a.volume) a.xs.now a.count a.targets.now (pos 0) (pos 0) c.requires.steps_value.3 c.requires.steps_value.2 c.loop-i.i h in
     traced_more _ _ _ _ _ c.loop-i.invariant (omega (arith, c.requires.steps_value.1)) c.key_of-key.ensures.0
     (summed_more _ _ _ _ _ c.loop-i.invariant.summed h (sym x) (y ∙ ap (normalised a.volume) x)
-    (rw (to_z-of_z g, back16 _ c.target-1.given) at c.next_state-state.ensures)
-    (rw (back16 _ c.sample-1.given) at c.squared_error-sum.ensures.0)
+    (rw (to_z-of_z g, back16 _ f.sfits) at c.next_state-state.ensures)
+    (rw (back16 _ e.sfits) at c.squared_error-sum.ensures.0)
     c.squared_error-sum.ensures.1)
 
 pub returns : goal.returns

@@ -3,6 +3,10 @@ use Prim.Native.Nat.{◌≤◌}
 use native.Mathlib.Omega.{arith}
 use mir.Facts.{to_z-of_z}
 use lib.Signed.{mag}
+use lib.IntN.{pos}
+use lib.ListN.{get_or}
+use mir.Syntax.{w16}
+use mir.Val.{SFits}
 use borrow.Author.Rules.{rules}
 use Rattle.signed.proofs.Laws.{back16, read16}
 use Rattle.gain.proofs.Laws.{normalised-fits}
@@ -23,8 +27,9 @@ loop-i-smaller c = omega arith
 pub loop-i-preserved : goal.loop-i-preserved
 loop-i-preserved c =
     let h : mag c.normalize.result ≤ 32767 = rw c.normalize.ensures (normalised-fits _ _) in
+    let e : SFits w16 (get_or c.args.xs c.loop-i.i (pos 0)) = search rules in
     mapped_more _ _ _ (search rules) c.loop-i.invariant (omega arith)
-    (to_z-of_z (overflow_cast-targets c) ∙ read16 _ h ∙ rw (back16 _ c.normalize-arg-1.given) at c.normalize.ensures)
+    (to_z-of_z (overflow_cast-targets c) ∙ read16 _ h ∙ rw (back16 _ e.sfits) at c.normalize.ensures)
 
 pub returns : goal.returns
 returns c = mapped_all _ _ _ c.loop-i.invariant (omega arith)

@@ -18,16 +18,6 @@ use Rattle.trial.proofs.run_trial.Goals as goal
 pub loop-i-init : goal.loop-i-init
 loop-i-init c = tried_none _ _ _ _ _ c.fragment_start-state.ensures c.requires.1
 
-pub overflow_cast-target : goal.overflow_cast-target
-overflow_cast-target c = rw (back16 _ c.target-1.given) (record { sfits = omega (arith, c.target-1.given) })
-
-pub encode_code-code-requires : goal.encode_code-code-requires
-encode_code-code-requires c = (
-  c.requires.0,
-  c.loop-i.invariant.summed.range,
-  rw (to_z-of_z (overflow_cast-target c), back16 _ c.target-1.given) (omega (arith, c.target-1.given)),
-)
-
 pub update-state-requires : goal.update-state-requires
 update-state-requires c =
     (c.requires.0, c.loop-i.invariant.summed.range, c.encode_code-code.ensures.1)
@@ -42,15 +32,16 @@ pub loop-i-preserved : goal.loop-i-preserved
 loop-i-preserved c =
     let a = c.args in
     let f : SFits w16 (get_or a.targets c.loop-i.i (pos 0)) = search rules in
+    let e : SFits w16 (get_or a.xs c.loop-i.i (pos 0)) = search rules in
     let g : SFits w32 (to_z w16 (of_z w16 (get_or a.targets c.loop-i.i (pos 0)))) = rw (to_z-of_z f) (sfits_widen tt f) in
     let room : a.count ≤ length a.xs = search rules in
     let h : c.loop-i.i < a.count = omega arith in
     let x = get_or-take a.count a.xs c.loop-i.i (pos 0) h in
     let y = mapped_at (normalised a.volume) a.xs a.count a.targets (pos 0) (pos 0) c.requires.2 room c.loop-i.i h in
     tried_more _ _ _ _ _ c.loop-i.invariant h (sym x) (y ∙ ap (normalised a.volume) x)
-    (rw (to_z-of_z g, back16 _ c.target-1.given) at c.encode_code-code.ensures.0)
+    (rw (to_z-of_z g, back16 _ f.sfits) at c.encode_code-code.ensures.0)
     c.update-state.ensures
-    (rw (back16 _ c.sample-1.given) at c.squared_error-sum.ensures.0)
+    (rw (back16 _ e.sfits) at c.squared_error-sum.ensures.0)
     c.squared_error-sum.ensures.1
 
 pub returns : goal.returns
