@@ -1,20 +1,15 @@
-// Replays answers that were recorded from the Rust and from decoders of IMA ADPCM. Each file of data/ holds questions of one kind, each
-// with its answer as bytes: to the calls for C, to the converter and to the inspector. The file ima has more for both decoders, with what
-// those of IMA ADPCM gave. The file wrong has questions of every kind with answers that are wrong in one byte, all of which must differ.
+// Replays answers that were recorded from the Rust and from decoders of IMA ADPCM. Each file of data/ holds questions of one kind: to the
+// encoder, to inspection, to the decoder, to the fragment decoder, to the reader and the writer of WAV files, to the converter and to the
+// inspector, each with the Rust's answer as bytes. The file ima has more for both decoders, with what those of IMA ADPCM gave.
 // oracle/README.md has the layout. Each question is asked of the proved functions, and the answer's bytes are compared. The program prints
 // for each file how many answers there were and how many differ.
 #![tactic(auto)]
 
-use format::State;
-use postlapse::{Answer, HeaderAnswer, WaveAnswer};
+use format::{Decoded, Encoded, Error, FragmentDecoded, Inspected, State, Variant, VariantRead};
 use std::fs::File;
 use std::io;
 use std::io::Read;
-
-// The places of the arrays that are lent to the calls. Each byte of them is 165 before a call.
-const SAMPLES: usize = 1024;
-
-const BYTES: usize = 2092;
+use wav_format::{WaveError, WaveFilled, WaveRead};
 
 // What one turn found: the end of the list, an answer, one that differs, or a list that breaks off.
 #[derive(Clone, Copy)]
@@ -94,108 +89,87 @@ fn put_samples(out: &mut [u8], at: usize, s: &[i16]) -> usize {
     next
 }
 
-// Where the numbers of an answer end, and how many places the call says that it has filled.
-#[derive(Clone, Copy)]
-struct Told {
-    at: usize,
-    count: usize,
-}
-
-// The numbers of an answer, in eight bytes each.
-fn put_answer(out: &mut [u8], a: Answer) -> Told {
-    let b = put_eight(out, 0, a.refusal);
-    let c = put_eight(out, b, a.first);
-    let at = put_eight(out, c, a.second);
-    let count = if a.refusal == 0 { a.first } else { 0 };
-    Told { at, count }
-}
-
-// The fields of a header.
-fn put_fields(out: &mut [u8], at: usize, a: HeaderAnswer) -> usize {
-    let b = put(out, at, a.version);
-    let c = put(out, b, a.variant);
-    let d = put(out, c, a.channels);
-    let e = put_eight(out, d, a.rate as usize);
-    put_eight(out, e, a.samples as usize)
-}
-
-// The samples of all channels.
-fn total(samples: u32, channels: u8) -> usize {
-    (samples as usize) * (channels as usize)
-}
-
-// The numbers of an answer, and its header.
-fn put_header(out: &mut [u8], a: HeaderAnswer) -> Told {
-    let numbers = Answer {
-        refusal: a.refusal,
-        first: a.first,
-        second: a.second,
-    };
-    let told = put_answer(out, numbers);
-    let at = put_fields(out, told.at, a);
-    let count = total(a.samples, a.channels);
-    Told { at, count }
-}
-
-// Puts the first n places of an output. Where a place behind them has been changed, there is no answer.
-fn put_output(out: &mut [u8], at: usize, places: &[u8], n: usize) -> usize {
-    let before = [165u8; BYTES];
-    if check::same(tail(places, n), tail(&before, n)) {
-        return put_bytes(out, at, front(places, n));
+// A refusal: 0, its number, how many numbers it returns, and those in eight bytes each.
+fn put_refused(out: &mut [u8], e: Error) -> usize {
+    let values = e.values();
+    let a = put(out, 0, 0);
+    let b = put(out, a, e.number());
+    let c = put(out, b, (values.count % 256) as u8);
+    if values.count == 0 {
+        return c;
     }
-    0
-}
-
-// The same of an output of samples.
-fn put_pcm(out: &mut [u8], told: Told, pcm: &[i16]) -> usize {
-    if SAMPLES < told.count {
-        return 0;
+    let d = put_eight(out, c, values.first);
+    if values.count == 1 {
+        return d;
     }
-    let mut places = [165u8; BYTES];
-    put_samples(&mut places, 0, pcm);
-    put_output(out, told.at, &places, 2 * told.count)
+    put_eight(out, d, values.second)
 }
 
 // Loads the samples of a question's bytes; none where they are too many.
 fn load(s: &[u8], out: &mut [i16]) -> usize {
-    let a = postlapse::postlapse_load_samples(s, out);
-    if a.refusal == 0 { a.first } else { 0 }
-}
-
-// The encoder's question is variant, gain and a sound, the writer's a sound: channels, rate, room, samples.
-fn call_bytes(q: &[u8], sound: &[u8], pcm: &[i16], places: &mut [u8]) -> Answer {
-    let channels = byte_at(sound, 0);
-    let rate = word_at(sound, 1);
-    if byte_at(q, 0) == 1 {
-        return postlapse::postlapse_encode(
-            pcm,
-            channels,
-            rate,
-            byte_at(q, 1),
-            byte_at(q, 2),
-            places,
-        );
+    match wav_samples::load_samples(s, out) {
+        WaveFilled::Filled(n) => n,
+        WaveFilled::Refused(_) => 0,
     }
-    postlapse::postlapse_write_wave(channels, rate, pcm, places)
 }
 
-// Lends the first places to the call. Where there are fewer than the question says, nothing is asked.
-fn fill_bytes(q: &[u8], sound: &[u8], pcm: &[i16], places: &mut [u8], out: &mut [u8]) -> Told {
-    let room = word_at(sound, 5) as usize;
-    if places.len() < room {
-        return Told { at: 0, count: 0 };
+// The answer to an encoder's question, at its variant.
+fn encode(q: &[u8], variant: Variant, out: &mut [u8]) -> usize {
+    let mut pcm = [0i16; 1024];
+    let n = load(tail(q, 8), &mut pcm);
+    let samples = front_samples(&pcm, n);
+    let mut stream = [165u8; 1024];
+    match encoder::encode_interleaved(
+        samples,
+        byte_at(q, 3),
+        word_at(q, 4),
+        variant,
+        byte_at(q, 2),
+        &mut stream,
+    ) {
+        Encoded::Written(w) => {
+            let at = put(out, 0, 1);
+            put_bytes(out, at, front(&stream, w.length))
+        }
+        Encoded::Refused(e) => put_refused(out, e),
     }
-    let a = call_bytes(q, sound, pcm, &mut places[..room]);
-    put_answer(out, a)
 }
 
-// Kinds 1 and 8. The numbers, and the stream or the file.
-fn ask_bytes(q: &[u8], sound: &[u8], out: &mut [u8]) -> usize {
-    let mut pcm = [0i16; SAMPLES];
-    let n = load(tail(sound, 9), &mut pcm);
-    let mut places = [165u8; BYTES];
-    let told = fill_bytes(q, sound, front_samples(&pcm, n), &mut places, out);
-    put_output(out, told.at, &places, told.count)
+// Kind 1: variant, gain, channels, rate, samples. A result: 1, and the stream.
+fn ask_encode(q: &[u8], out: &mut [u8]) -> usize {
+    match Variant::try_from(byte_at(q, 1)) {
+        VariantRead::Known(variant) => encode(q, variant, out),
+        VariantRead::Refused(e) => put_refused(out, e),
+    }
+}
+
+// Kind 2: a stream. A result: 1, version, variant, channels, rate, samples.
+fn ask_inspect(q: &[u8], out: &mut [u8]) -> usize {
+    match inspect::inspect(tail(q, 1)) {
+        Inspected::Accepted(h) => {
+            let variant = h.variant;
+            let a = put(out, 0, 1);
+            let b = put(out, a, h.version);
+            let c = put(out, b, variant.byte());
+            let d = put(out, c, h.channels);
+            let e = put_eight(out, d, h.rate as usize);
+            put_eight(out, e, h.samples as usize)
+        }
+        Inspected::Refused(e) => put_refused(out, e),
+    }
+}
+
+// Kind 3: a stream. A result: 1, and the samples.
+fn ask_decode(q: &[u8], out: &mut [u8]) -> usize {
+    let mut pcm = [0i16; 1024];
+    match decoder::decode(tail(q, 1), &mut pcm) {
+        Decoded::Filled(h) => {
+            let n = (h.samples as usize) * (h.channels as usize);
+            let at = put(out, 0, 1);
+            put_samples(out, at, front_samples(&pcm, n))
+        }
+        Decoded::Refused(e) => put_refused(out, e),
+    }
 }
 
 // Puts a decoder's state: whether the predictor is negative, its magnitude, and the index.
@@ -207,99 +181,72 @@ fn put_state(out: &mut [u8], at: usize, s: State) -> usize {
     put_eight(out, last, s.index)
 }
 
-// The number of a sign and a magnitude; the least one has a magnitude of its own.
-fn predictor(negative: bool, m: u32) -> i32 {
-    if m < 2147483648 {
-        return signed::with_sign(negative, m);
-    }
-    -2147483648
-}
-
-// The state that a question has at byte k.
+// The state that a question has at byte k, of a predictor of 16 bits.
 fn state_at(q: &[u8], k: usize) -> State {
     let part = tail(q, k);
+    let predictor = signed::with_sign(byte_at(part, 0) == 1, word_at(part, 1) % 65536);
     State {
-        predictor: predictor(byte_at(part, 0) == 1, word_at(part, 1)),
-        index: word_at(part, 9) as usize + 4294967296 * (word_at(part, 13) as usize),
+        predictor,
+        index: word_at(part, 9) as usize,
     }
 }
 
-// The numbers of the fragment decoder's answer, and the state after it.
-fn put_played(out: &mut [u8], a: Answer, state: State) -> Told {
-    let told = put_answer(out, a);
-    let at = put_state(out, told.at, state);
-    Told {
-        at,
-        count: told.count,
+// A result of the fragment decoder: 1, the state after it, and the samples.
+fn put_played(out: &mut [u8], state: State, samples: &[i16]) -> usize {
+    let at = put(out, 0, 1);
+    let end = put_state(out, at, state);
+    put_samples(out, end, samples)
+}
+
+// The answer to a fragment's question at its variant, decoded to `pcm` from the state by value.
+fn play_by_value(q: &[u8], variant: Variant, pcm: &mut [i16], out: &mut [u8]) -> usize {
+    let state = state_at(q, 4);
+    let r = fragment::decode_one(byte_at(q, 1), variant, state, tail(q, 21), pcm);
+    let answer = r.answer;
+    let next = r.state;
+    match answer {
+        FragmentDecoded::Filled(n) => put_played(out, next, front_samples(pcm, n)),
+        FragmentDecoded::Refused(e) => put_refused(out, e),
     }
 }
 
-// The fragment decoder with the state by value. Its answer has no second number.
-fn play(q: &[u8], pcm: &mut [i16], out: &mut [u8]) -> Told {
-    let s = state_at(q, 4);
-    let a = postlapse::postlapse_decode_fragment(
-        byte_at(q, 1),
-        byte_at(q, 2),
-        s.predictor,
-        s.index,
-        tail(q, 21),
-        pcm,
-    );
-    let numbers = Answer {
-        refusal: a.refusal,
-        first: a.first,
-        second: 0,
-    };
-    let state = State {
-        predictor: a.predictor,
-        index: a.index,
-    };
-    put_played(out, numbers, state)
-}
-
-// The same with the state lent.
-fn play_lent(q: &[u8], pcm: &mut [i16], out: &mut [u8]) -> Told {
-    let s = state_at(q, 4);
-    let r = postlapse::decode_through_lent(byte_at(q, 1), byte_at(q, 2), s, tail(q, 21), pcm);
-    put_played(out, r.answer, r.state)
-}
-
-// The calls that fill samples, by their kinds. The fragment decoder with the state lent is 11 here.
-fn call_samples(q: &[u8], kind: u8, pcm: &mut [i16], out: &mut [u8]) -> Told {
-    if kind == 3 {
-        return put_header(out, postlapse::postlapse_decode(tail(q, 5), pcm));
+fn play(q: &[u8], pcm: &mut [i16], out: &mut [u8]) -> usize {
+    match Variant::try_from(byte_at(q, 2)) {
+        VariantRead::Known(variant) => play_by_value(q, variant, pcm, out),
+        VariantRead::Refused(e) => put_refused(out, e),
     }
-    if kind == 10 {
-        return put_answer(out, postlapse::postlapse_load_samples(tail(q, 5), pcm));
-    }
-    if kind == 7 {
-        return play(q, pcm, out);
-    }
-    play_lent(q, pcm, out)
 }
 
-// Lends the first places to the call, as `fill_bytes` does.
-fn fill_samples(q: &[u8], kind: u8, room: usize, pcm: &mut [i16], out: &mut [u8]) -> Told {
-    if pcm.len() < room {
-        return Told { at: 0, count: 0 };
+// The same with the state lent. Of its refusals 7 returns a number, and 14 and 15 none.
+fn play_lent(q: &[u8], pcm: &mut [i16], out: &mut [u8]) -> usize {
+    let state = state_at(q, 4);
+    let r = postlapse::decode_through_lent(byte_at(q, 1), byte_at(q, 2), state, tail(q, 21), pcm);
+    let answer = r.answer;
+    let next = r.state;
+    if answer.refusal == 0 {
+        return put_played(out, next, front_samples(pcm, answer.first));
     }
-    call_samples(q, kind, &mut pcm[..room], out)
+    let a = put(out, 0, 0);
+    let b = put(out, a, (answer.refusal % 256) as u8);
+    if answer.refusal == 7 {
+        let c = put(out, b, 1);
+        return put_eight(out, c, answer.first);
+    }
+    put(out, b, 0)
 }
 
-// Kinds 3, 7 and 10, with so many places for samples. The numbers, and the samples.
-fn ask_samples(q: &[u8], kind: u8, room: usize, out: &mut [u8]) -> usize {
-    let mut pcm = [-23131i16; SAMPLES];
-    let told = fill_samples(q, kind, room, &mut pcm, out);
-    put_pcm(out, told, &pcm)
-}
-
-// Kind 7: version, variant, count, state, a fragment. It is asked by value and with the state lent; where the two answers differ, it
-// has none.
+// Kind 7: version, variant, count, state, a fragment. A result: 1, the state after it, and the samples. It is asked by value and with
+// the state lent; where the two answers differ, it has none.
 fn ask_fragment(q: &[u8], out: &mut [u8]) -> usize {
     let count = byte_at(q, 3) as usize;
-    let n = ask_samples(q, 7, count, out);
-    let mut lent = [0u8; BYTES];
-    let m = ask_samples(q, 11, count, &mut lent);
+    if 64 < count {
+        return 0;
+    }
+    let mut pcm = [0i16; 64];
+    let n = play(q, &mut pcm[..count], out);
+    let mut lent_pcm = [0i16; 64];
+    let mut lent = [0u8; 160];
+    let m = play_lent(q, &mut lent_pcm[..count], &mut lent);
     if check::same(front(out, n), front(&lent, m)) {
         n
     } else {
@@ -307,32 +254,44 @@ fn ask_fragment(q: &[u8], out: &mut [u8]) -> usize {
     }
 }
 
-// What a WAV file says, and where its sample bytes lie.
-fn put_wave(out: &mut [u8], a: WaveAnswer) -> usize {
-    let b = put_eight(out, 0, a.refusal);
-    let c = put_two(out, b, a.channels as usize);
-    let d = put_eight(out, c, a.rate as usize);
-    let e = put_eight(out, d, a.start);
-    put_eight(out, e, a.size)
+// Kind 8: channels, rate, samples. A result: 1, and the file.
+fn ask_write(q: &[u8], out: &mut [u8]) -> usize {
+    let mut pcm = [0i16; 1024];
+    let n = load(tail(q, 6), &mut pcm);
+    let mut file = [165u8; 2148];
+    match wav_writer::write_pcm16_wave(
+        byte_at(q, 1),
+        word_at(q, 2),
+        front_samples(&pcm, n),
+        &mut file,
+    ) {
+        WaveFilled::Filled(size) => {
+            let at = put(out, 0, 1);
+            put_bytes(out, at, front(&file, size))
+        }
+        WaveFilled::Refused(e) => put_wave_refused(out, e),
+    }
 }
 
-// The same, and the sample bytes. Where these are not the part of the file that start and size name, there is no answer.
-fn put_read(out: &mut [u8], file: &[u8], a: WaveAnswer, samples: &[u8]) -> usize {
-    let at = put_wave(out, a);
-    if check::same(samples, front(tail(file, a.start), a.size)) {
-        return put_bytes(out, at, samples);
-    }
-    0
+// A refusal of a WAV call that returns no numbers.
+fn put_wave_refused(out: &mut [u8], e: WaveError) -> usize {
+    let a = put(out, 0, 0);
+    let b = put(out, a, e.number());
+    put(out, b, 0)
 }
 
-// Kinds 4 and 9: a file, for plain and for strict reading.
-fn ask_wave(file: &[u8], kind: u8, out: &mut [u8]) -> usize {
-    if kind == 4 {
-        let a = postlapse::postlapse_read_wave(file);
-        return put_read(out, file, a, wav::wave_samples(file));
+// Kind 4: a WAV file. A result: 1, channels, rate, and the sample bytes.
+fn ask_wave(q: &[u8], out: &mut [u8]) -> usize {
+    let file = tail(q, 1);
+    match wav::read_pcm16_wave(file) {
+        WaveRead::Accepted(w) => {
+            let a = put(out, 0, 1);
+            let b = put_two(out, a, w.channels as usize);
+            let c = put_eight(out, b, w.rate as usize);
+            put_bytes(out, c, wav::wave_samples(file))
+        }
+        WaveRead::Refused(e) => put_wave_refused(out, e),
     }
-    let a = postlapse::postlapse_read_strict_wave(file);
-    put_read(out, file, a, wav::strict_samples(file))
 }
 
 // Kinds 5 and 6: what a program reads. What it prints.
@@ -348,22 +307,22 @@ fn ask_program(q: &[u8], kind: u8, out: &mut [u8; commands::ROOM]) -> usize {
 fn ask(q: &[u8], out: &mut [u8; commands::ROOM]) -> usize {
     let kind = byte_at(q, 0);
     if kind == 1 {
-        return ask_bytes(q, tail(q, 3), out);
-    }
-    if kind == 8 {
-        return ask_bytes(q, tail(q, 1), out);
+        return ask_encode(q, out);
     }
     if kind == 2 {
-        return put_header(out, postlapse::postlapse_inspect(tail(q, 1))).at;
+        return ask_inspect(q, out);
     }
-    if kind == 3 || kind == 10 {
-        return ask_samples(q, kind, word_at(q, 1) as usize, out);
+    if kind == 3 {
+        return ask_decode(q, out);
+    }
+    if kind == 4 {
+        return ask_wave(q, out);
     }
     if kind == 7 {
         return ask_fragment(q, out);
     }
-    if kind == 4 || kind == 9 {
-        return ask_wave(tail(q, 1), kind, out);
+    if kind == 8 {
+        return ask_write(q, out);
     }
     ask_program(q, kind, out)
 }
@@ -481,12 +440,9 @@ fn main(rt: HostRuntime) -> io::Result<()> {
     replay_file(&rt, "decode")?;
     replay_file(&rt, "fragment")?;
     replay_file(&rt, "wav")?;
-    replay_file(&rt, "strict")?;
-    replay_file(&rt, "load")?;
     replay_file(&rt, "write")?;
     replay_file(&rt, "converter")?;
     replay_file(&rt, "inspector")?;
     replay_file(&rt, "ima")?;
-    replay_file(&rt, "wrong")?;
     Ok(())
 }

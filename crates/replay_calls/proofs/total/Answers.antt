@@ -1,8 +1,8 @@
--- `replay::total` meets its contract. Assumes nothing.
+-- `replay_calls::total` meets its contract. Assumes nothing.
 use native.Mathlib.Nat.{mul-le-mul_left}
 use native.Mathlib.Omega.{arith}
 use borrow.Author.Rules.{rules}
-use Rattle.replay.proofs.total.Goals as goal
+use Rattle.replay_calls.proofs.total.Goals as goal
 
 pub overflow_mul-result : goal.overflow_mul-result
 overflow_mul-result c = omega (arith, mul-le-mul_left {m = c.args.channels} {n = 255} c.args.samples (omega (arith, c.ranges)), c.ranges)
