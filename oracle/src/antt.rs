@@ -8,12 +8,12 @@ use crate::reference::sqv4::{State, Variant};
 /// The lines above the theorems.
 const HEADER: &str = "\
 -- Answers of the reference Rust, each a theorem that is computed. Made by `oracle/run antt`. Assumes nothing.
-use mathlib.Core.List.{[], _∷_}
+use mathlib.Core.List.{[], ◌∷◌}
 use lib.Dec.{T}
 use lib.IntN.{pos, negsuc}
-use Rattle·format.specs.Compute.{computing}
-use Rattle·format.specs.Tests.{encodes, encodeRefused, inspects, inspectRefused, decodes, decodeRefused, plays, steps}
-use Rattle·format.specs.declared.Variant.the-variants.{H, L, LPlus}
+use Rattle.format.specs.Compute.{computing}
+use Rattle.format.specs.Tests.{encodes, encode_refused, inspects, inspect_refused, decodes, decode_refused, plays, steps}
+use Rattle.format.specs.declared.Variant.TheVariants.{H, L, LPlus}
 ";
 
 const WIDTH: usize = 118;
@@ -57,13 +57,13 @@ fn test(input: &Input) -> Option<Vec<String>> {
     })
 }
 
-/// A call that can be refused: `encodes`, `inspects` or `decodes` with the result, or `encodeRefused` and so on with
+/// A call that can be refused: `encodes`, `inspects` or `decodes` with the result, or `encode_refused` and so on with
 /// the number and the returned values.
 fn either(verb: &str, call: Vec<String>, answer: Result<Answer, Refusal>) -> Vec<String> {
     match answer {
         Ok(answer) => [vec![format!("{verb}s")], call, result(answer)].concat(),
         Err(Refusal { number, values }) => {
-            [vec![format!("{verb}Refused")], call, vec![number.to_string()], naturals(&values)].concat()
+            [vec![format!("{verb}_refused")], call, vec![number.to_string()], naturals(&values)].concat()
         }
     }
 }
