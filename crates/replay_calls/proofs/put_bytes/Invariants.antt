@@ -1,7 +1,6 @@
 -- `replay_calls::put_bytes` meets its contract. Assumes nothing.
 use mathlib.Core.Path.{◌≡◌}
 use Prim.Native.Nat.{◌-◌, ◌≤◌}
-use borrow.Author.Rules.{rules}
 use lib.ListN.{length}
 use Rattle.replay_calls.proofs.put_bytes.Given as goal
 

@@ -1,6 +1,5 @@
 -- `replay_calls::replay_all` meets its contract. Assumes nothing.
 use Prim.Native.Nat.{◌+◌, ◌≤◌}
-use borrow.Author.Rules.{rules}
 use Rattle.replay_calls.proofs.replay_all.Given as goal
 
 abbrev pub invariant-loop-left : goal.invariant-loop-left

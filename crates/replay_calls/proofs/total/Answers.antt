@@ -1,7 +1,6 @@
 -- `replay_calls::total` meets its contract. Assumes nothing.
 use native.Mathlib.Nat.{mul-le-mul_left}
 use native.Mathlib.Omega.{arith}
-use borrow.Author.Rules.{rules}
 use Rattle.replay_calls.proofs.total.Goals as goal
 
 pub overflow_mul-result : goal.overflow_mul-result
