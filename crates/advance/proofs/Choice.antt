@@ -18,7 +18,7 @@ use Rattle.adpcm.proofs.Bounds.{difference_three, adjustment_three, step_low}
 use Rattle.advance.specs.declared.Sizes.{Sizes}
 use Rattle.advance.specs.Advance.{size_at, Sized, Landed}
 use Rattle.advance.proofs.Cascade.{index_moved}
-use Rattle.advance.proofs.Nearest.{apart, Chosen, chosen, Lowest, cut, rises, differ, first-only, up-near, up-far, down-near, down-far}
+use Rattle.advance.proofs.Nearest.{apart, Chosen, chosen, Lowest, cut, rises, differ, first_only, up_near, up_far, down_near, down_far}
 
 -- ---- the four sizes grow
 
@@ -167,11 +167,11 @@ module _ (variant : Variant) (s : State) (input : ℤ) (three : bits variant ≡
         go (no l) = let h : p ≤ x = omega arith in omega (arith, eu h)
 
     -- what the code's three tests choose
-    pub l-chosen : {a b c d m v : ℕ} → a ≡ cut size room 0 → b ≡ cut size room 1 → c ≡ cut size room 2 → d ≡ cut size room 3
+    pub l_chosen : {a b c d m v : ℕ} → a ≡ cut size room 0 → b ≡ cut size room 1 → c ≡ cut size room 2 → d ≡ cut size room 3
         → m ≡ cond (ltb (a + b) (2 * r)) 1 0 + cond (ltb (b + c) (2 * r)) 1 0 + cond (ltb (c + d) (2 * r)) 1 0
         → v ≡ cond (ltb (c + d) (2 * r)) d (cond (ltb (b + c) (2 * r)) c (cond (ltb (a + b) (2 * r)) b a))
         → Chosen r (cut size room) m v (ltb (a + b) (2 * r))
-    l-chosen ea eb ec ed em ev =
+    l_chosen ea eb ec ed em ev =
         rw (em, ev, ea, eb, ec, ed) (chosen r (cut size room) (rises r room 0 size order some fits) (differ r room 0 size order some fits) _ _ _ refl refl refl)
 
     module _ {m v : ℕ} {up : Bool} (k : Chosen r (cut size room) m v up) {u : ℕ} (d : Landed x p (2 * r) v u) (q : ℤ) (i : ℕ)
@@ -199,13 +199,13 @@ module _ (variant : Variant) (s : State) (input : ℤ) (three : bits variant ≡
           go (yes h) =
               let f = rw (ed l) at k.value in
               ends (4 + m) (omega (arith, k.within))
-              (down-near r room (65535 - p) size order some fits k cost toward away (omega arith) (rw k.value at h))
+              (down_near r room (65535 - p) size order some fits k cost toward away (omega arith) (rw k.value at h))
               (d.down l h ∙ down_short p (size m) v f ∙ sym (down_landing m k.within))
           go (no h) =
               let c : 2 * r + (65535 - p) ≤ v = omega arith in
               let z = rw k.value at c in
-              let n = first-only r room (65535 - p) size order some fits k z in
-              ends 0 (sym n) (down-far r room (65535 - p) size order some fits k cost toward away z)
+              let n = first_only r room (65535 - p) size order some fits k z in
+              ends 0 (sym n) (down_far r room (65535 - p) size order some fits k cost toward away z)
               (d.top l c ∙ sym (up_landing 0 (omega arith) ∙ past (size 0) (rw n at z)))
             where
               past : (a : ℕ) → 2 * r + (65535 - p) ≤ min a room → min (p + a) 65535 ≡ 65535
@@ -226,8 +226,8 @@ module _ (variant : Variant) (s : State) (input : ℤ) (three : bits variant ≡
           go : Dec (2 * r + p < v) → Stepped q i
           go (yes h) =
               let z = rw k.value at h in
-              let n = first-only r room p size order some fits k (omega arith) in
-              ends 4 (sym n) (up-far r room p size order some fits k cost toward away z)
+              let n = first_only r room p size order some fits k (omega arith) in
+              ends 4 (sym n) (up_far r room p size order some fits k cost toward away z)
               (d.bottom l h ∙ sym (down_landing 0 (omega arith) ∙ past (size 0) (rw n at z)))
             where
               past : (a : ℕ) → 2 * r + p < min a room → p - a ≡ 0
@@ -235,11 +235,11 @@ module _ (variant : Variant) (s : State) (input : ℤ) (three : bits variant ≡
           go (no h) =
               let c : v ≤ 2 * r + p = omega arith in
               let f = rw (eu l) at k.value in
-              ends m (omega (arith, k.within)) (up-near r room p size order some fits k cost toward away (rw k.value at c))
+              ends m (omega (arith, k.within)) (up_near r room p size order some fits k cost toward away (rw k.value at c))
               (d.up l c ∙ up_short p (size m) v hp f ∙ sym (up_landing m k.within))
 
-      pub l-stepped : Stepped q i
-      l-stepped = go (dec_lt x p)
+      pub l_stepped : Stepped q i
+      l_stepped = go (dec_lt x p)
         where
           go : Dec (x < p) → Stepped q i
           go (yes l) = stepped_down l

@@ -62,21 +62,21 @@ module _ (r : ℕ) (o : ℕ → ℕ) (rises : (i j : ℕ) → i ≤ j → j < 4 
   chosen true false true ea eb ec = absurd (omega (arith, ltb-false (o 1 + o 2) (2 * r) eb, ltb-true (o 2 + o 3) (2 * r) ec, rises 1 3 (omega arith) (omega arith)))
 
   module _ {m v : ℕ} {up : Bool} (k : Chosen r o m v up) where
-    pub lower-farther : (j : ℕ) → j < m → apart r (o m) < apart r (o j)
-    lower-farther j l =
+    pub lower_farther : (j : ℕ) → j < m → apart r (o m) < apart r (o j)
+    lower_farther j l =
         ⊎_elim (λ (h : o j < o m). omega (arith, k.below j l)) (λ (h : r ≤ o m). omega (arith, k.below j l)) (differ j m l k.within)
 
-    pub no-nearer : (j : ℕ) → j < 4 → apart r (o m) ≤ apart r (o j)
-    no-nearer j l = go (dec_lt j m) (dec_lt m j)
+    pub no_nearer : (j : ℕ) → j < 4 → apart r (o m) ≤ apart r (o j)
+    no_nearer j l = go (dec_lt j m) (dec_lt m j)
       where
         go : Dec (j < m) → Dec (m < j) → apart r (o m) ≤ apart r (o j)
-        go (yes a) b = omega (arith, lower-farther j a)
+        go (yes a) b = omega (arith, lower_farther j a)
         go (no a) (yes b) = omega (arith, k.above j b l, rises m j (omega arith) l)
         go (no a) (no b) = let e : j ≡ m = omega arith in rw e (omega arith)
 
     -- past the first, the nearest is less than twice as far as the mark
-    pub less-than-twice : 0 < m → o m < 2 * r
-    less-than-twice h = omega (arith, k.below 0 h)
+    pub less_than_twice : 0 < m → o m < 2 * r
+    less_than_twice h = omega (arith, k.below 0 h)
 
 -- ---- eight costs, of which the first four and the last four are those of the two sides
 
@@ -116,80 +116,80 @@ module _ (r room other : ℕ) (size : ℕ → ℕ) (grows : (i j : ℕ) → i < 
     behind h j l = go (dec_lt 0 m)
       where
         go : Dec (0 < m) → apart r (cut size room m) ≤ r + cut size other j
-        go (yes n) = omega (arith, less-than-twice r (cut size room) rises differ k n)
+        go (yes n) = omega (arith, less_than_twice r (cut size room) rises differ k n)
         go (no n) = let e : m ≡ 0 = omega arith in let z = rw e at h in rw e (omega (arith, no_less 0 j (omega arith) l))
 
-    behind-farther : 0 < r → cut size room m < 2 * r + other → (j : ℕ) → j < 4 → apart r (cut size room m) < r + cut size other j
-    behind-farther h0 h j l = go (dec_lt 0 m)
+    behind_farther : 0 < r → cut size room m < 2 * r + other → (j : ℕ) → j < 4 → apart r (cut size room m) < r + cut size other j
+    behind_farther h0 h j l = go (dec_lt 0 m)
       where
         go : Dec (0 < m) → apart r (cut size room m) < r + cut size other j
-        go (yes n) = omega (arith, less-than-twice r (cut size room) rises differ k n, no_less 0 m (omega arith) k.within)
+        go (yes n) = omega (arith, less_than_twice r (cut size room) rises differ k n, no_less 0 m (omega arith) k.within)
         go (no n) = let e : m ≡ 0 = omega arith in let z = rw e at h in rw e (omega (arith, no_less 0 j (omega arith) l))
 
     -- where it is cut short and nearer, the first is chosen, and all behind stand at the limit
-    pub first-only : 2 * r + other ≤ cut size room m → m ≡ 0
-    first-only h = go (dec_lt 0 m)
+    pub first_only : 2 * r + other ≤ cut size room m → m ≡ 0
+    first_only h = go (dec_lt 0 m)
       where
         go : Dec (0 < m) → m ≡ 0
-        go (yes n) = absurd (omega (arith, less-than-twice r (cut size room) rises differ k n))
+        go (yes n) = absurd (omega (arith, less_than_twice r (cut size room) rises differ k n))
         go (no n) = omega arith
 
     limit : 2 * r + other ≤ cut size room m → (j : ℕ) → j < 4 → cut size other j ≡ other
-    limit h j l = let e = first-only h in let z = rw e at h in omega (arith, no_less 0 j (omega arith) l)
+    limit h j l = let e = first_only h in let z = rw e at h in omega (arith, no_less 0 j (omega arith) l)
 
     -- the costs of the side toward the mark stand first
-    pub up-near : (e : ℕ → ℕ) → ((j : ℕ) → j < 4 → e j ≡ apart r (cut size room j)) → ((j : ℕ) → j < 4 → e (4 + j) ≡ r + cut size other j)
+    pub up_near : (e : ℕ → ℕ) → ((j : ℕ) → j < 4 → e j ≡ apart r (cut size room j)) → ((j : ℕ) → j < 4 → e (4 + j) ≡ r + cut size other j)
         → cut size room m ≤ 2 * r + other → Lowest e m
-    up-near e en ef h =
+    up_near e en ef h =
         record {
           within = omega (arith, k.within);
           least =
-              eights (λ i. e m ≤ e i) (λ j l. omega (arith, en m k.within, en j l, no-nearer r (cut size room) rises differ k j l))
+              eights (λ i. e m ≤ e i) (λ j l. omega (arith, en m k.within, en j l, no_nearer r (cut size room) rises differ k j l))
               (λ j l. omega (arith, en m k.within, ef j l, behind h j l));
-          first = λ i l. omega (arith, en m k.within, en i (omega (arith, k.within)), lower-farther r (cut size room) rises differ k i l);
+          first = λ i l. omega (arith, en m k.within, en i (omega (arith, k.within)), lower_farther r (cut size room) rises differ k i l);
         }
 
-    pub up-far : (e : ℕ → ℕ) → ((j : ℕ) → j < 4 → e j ≡ apart r (cut size room j)) → ((j : ℕ) → j < 4 → e (4 + j) ≡ r + cut size other j)
+    pub up_far : (e : ℕ → ℕ) → ((j : ℕ) → j < 4 → e j ≡ apart r (cut size room j)) → ((j : ℕ) → j < 4 → e (4 + j) ≡ r + cut size other j)
         → 2 * r + other < cut size room m → Lowest e 4
-    up-far e en ef h =
+    up_far e en ef h =
         let c : 2 * r + other ≤ cut size room m = omega arith in
         let z : e 4 ≡ r + other = omega (arith, ef 0 (omega arith), limit c 0 (omega arith)) in
         record {
           within = omega arith;
           least =
-              eights (λ i. e 4 ≤ e i) (λ j l. omega (arith, en j l, no-nearer r (cut size room) rises differ k j l))
+              eights (λ i. e 4 ≤ e i) (λ j l. omega (arith, en j l, no_nearer r (cut size room) rises differ k j l))
               (λ j l. omega (arith, ef j l, limit c j l));
-          first = λ i l. omega (arith, en i l, no-nearer r (cut size room) rises differ k i l);
+          first = λ i l. omega (arith, en i l, no_nearer r (cut size room) rises differ k i l);
         }
 
     -- they stand last
-    pub down-near : (e : ℕ → ℕ) → ((j : ℕ) → j < 4 → e (4 + j) ≡ apart r (cut size room j)) → ((j : ℕ) → j < 4 → e j ≡ r + cut size other j)
+    pub down_near : (e : ℕ → ℕ) → ((j : ℕ) → j < 4 → e (4 + j) ≡ apart r (cut size room j)) → ((j : ℕ) → j < 4 → e j ≡ r + cut size other j)
         → 0 < r → cut size room m < 2 * r + other → Lowest e (4 + m)
-    down-near e en ef h0 h =
+    down_near e en ef h0 h =
         record {
           within = omega (arith, k.within);
           least =
-              eights (λ i. e (4 + m) ≤ e i) (λ j l. omega (arith, en m k.within, ef j l, behind-farther h0 h j l))
-              (λ j l. omega (arith, en m k.within, en j l, no-nearer r (cut size room) rises differ k j l));
+              eights (λ i. e (4 + m) ≤ e i) (λ j l. omega (arith, en m k.within, ef j l, behind_farther h0 h j l))
+              (λ j l. omega (arith, en m k.within, en j l, no_nearer r (cut size room) rises differ k j l));
           first = λ i l. before i l (dec_lt i 4);
         }
       where
         before : (i : ℕ) → i < 4 + m → Dec (i < 4) → e (4 + m) < e i
-        before i l (yes n) = omega (arith, en m k.within, ef i n, behind-farther h0 h i n)
+        before i l (yes n) = omega (arith, en m k.within, ef i n, behind_farther h0 h i n)
         before i l (no n) =
             let j : i - 4 < m = omega arith in
             let f : 4 + (i - 4) ≡ i = omega arith in
             subst (λ i. e (4 + m) < e i) f
-            (omega (arith, en m k.within, en (i - 4) (omega (arith, k.within)), lower-farther r (cut size room) rises differ k (i - 4) j))
+            (omega (arith, en m k.within, en (i - 4) (omega (arith, k.within)), lower_farther r (cut size room) rises differ k (i - 4) j))
 
-    pub down-far : (e : ℕ → ℕ) → ((j : ℕ) → j < 4 → e (4 + j) ≡ apart r (cut size room j)) → ((j : ℕ) → j < 4 → e j ≡ r + cut size other j)
+    pub down_far : (e : ℕ → ℕ) → ((j : ℕ) → j < 4 → e (4 + j) ≡ apart r (cut size room j)) → ((j : ℕ) → j < 4 → e j ≡ r + cut size other j)
         → 2 * r + other ≤ cut size room m → Lowest e 0
-    down-far e en ef h =
+    down_far e en ef h =
         let z : e 0 ≡ r + other = omega (arith, ef 0 (omega arith), limit h 0 (omega arith)) in
         record {
           within = omega arith;
           least =
               eights (λ i. e 0 ≤ e i) (λ j l. omega (arith, ef j l, limit h j l))
-              (λ j l. omega (arith, en j l, no-nearer r (cut size room) rises differ k j l));
+              (λ j l. omega (arith, en j l, no_nearer r (cut size room) rises differ k j l));
           first = λ i l. absurd (omega arith);
         }

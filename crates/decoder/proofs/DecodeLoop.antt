@@ -18,7 +18,7 @@ use Rattle.format.specs.declared.State.{State}
 use Rattle.format.specs.declared.Header.{Header}
 use Rattle.decoder.specs.Loops.{out_after, states_after, place_decoded, AllInRange, Stream, turn_states, turn_out, start_states, loop_states, loop_samples, loop_out}
 use Rattle.decoder.proofs.Interleave.{out_whole, length-out_after}
-use Rattle.decoder.proofs.Turns.{chain, turn-state}
+use Rattle.decoder.proofs.Turns.{chain, turn_state_lem}
 use Rattle.decoder.proofs.InStep.{turn_range}
 
 module _ (h : Header) (d : List ℕ) (hc : 0 < h.channels) where
@@ -31,32 +31,32 @@ module _ (h : Header) (d : List ℕ) (hc : 0 < h.channels) where
 
   module _ (states : List State) (room : h.channels ≤ length states) (fresh : (k : ℕ) → k < h.channels → get_or states k zero_state ≡ zero_state) where
     -- the state that turn p finds is the definition's
-    pub turn-before : (p : ℕ) → get_or (loop_states h d states p) (p % h.channels) zero_state ≡ state_before h (fragment_at h d (p % h.channels)) (p / h.channels)
-    turn-before p =
-        turn-state zero_state h.channels (λ q s. (place_decoded h d q s).state) states hc room fresh p
+    pub turn_before : (p : ℕ) → get_or (loop_states h d states p) (p % h.channels) zero_state ≡ state_before h (fragment_at h d (p % h.channels)) (p / h.channels)
+    turn_before p =
+        turn_state_lem zero_state h.channels (λ q s. (place_decoded h d q s).state) states hc room fresh p
         ∙ chain_before (p % h.channels) (p / h.channels) (mod-lt p hc)
 
-    turn-samples : (p : ℕ) → loop_samples h d states p ≡ (frame_decoded h (fragment_at h d (p % h.channels)) (p / h.channels)).samples
-    turn-samples p =
-        ap (λ s. (place_decoded h d p s).samples) (turn-before p)
+    turn_samples : (p : ℕ) → loop_samples h d states p ≡ (frame_decoded h (fragment_at h d (p % h.channels)) (p / h.channels)).samples
+    turn_samples p =
+        ap (λ s. (place_decoded h d p s).samples) (turn_before p)
         ∙ ap (λ n. (decoded_fragment h.version h.variant (state_before h (fragment_at h d (p % h.channels)) (p / h.channels)) (fragment_at_place h d n) (count h (p / h.channels))).samples)
         (sym (div-add-mod' p h.channels))
 
-    place-samples : (f k : ℕ) → k < h.channels → loop_samples h d states (f * h.channels + k) ≡ (frame_decoded h (fragment_at h d k) f).samples
-    place-samples f k hk =
-        turn-samples (f * h.channels + k)
+    place_samples : (f k : ℕ) → k < h.channels → loop_samples h d states (f * h.channels + k) ≡ (frame_decoded h (fragment_at h d k) f).samples
+    place_samples f k hk =
+        turn_samples (f * h.channels + k)
         ∙ ap (λ n. (frame_decoded h (fragment_at h d n) ((f * h.channels + k) / h.channels)).samples) (digits_mod f hk)
         ∙ ap (λ n. (frame_decoded h (fragment_at h d k) n).samples) (digits_div f hk)
 
     -- after its last turn the loop has written the definition's samples, and nothing behind them
-    pub loop-decodes : (o : List ℤ) → h.samples * h.channels ≤ length o
+    pub loop_decodes : (o : List ℤ) → h.samples * h.channels ≤ length o
         → loop_out h d states o (frames h * h.channels) ≡ decoded h d ++ drop (h.samples * h.channels) o
     unfolding frames decoded channel_sample
-    loop-decodes o l =
+    loop_decodes o l =
         out_whole (pos 0) h.channels (whole_frame h) h.samples (loop_samples h d states) hc (frame_pos h) o l
         ∙ ap (λ x. x ++ drop (h.samples * h.channels) o)
         (tabulate_ext _ _ (h.samples * h.channels)
-        (λ j m. ap (λ x. get_or x (j / h.channels % whole_frame h) (pos 0)) (place-samples (j / h.channels / whole_frame h) (j % h.channels) (mod-lt j hc))))
+        (λ j m. ap (λ x. get_or x (j / h.channels % whole_frame h) (pos 0)) (place_samples (j / h.channels / whole_frame h) (j % h.channels) (mod-lt j hc))))
 
 -- ---- the loop with its two states
 
@@ -71,16 +71,16 @@ fresh k h = start_zero k
 module _ (h : Header) (d : List ℕ) (o : List ℤ) where
   -- after p fragments
   pub record Decoding (p : ℕ) (out : List ℤ) (states : List State) : Type 0 where
-    pub out-is : out ≡ loop_out h d start_states o p
-    pub states-are : states ≡ loop_states h d start_states p
+    pub out_is : out ≡ loop_out h d start_states o p
+    pub states_are : states ≡ loop_states h d start_states p
     pub range : AllInRange states
 
   pub decoding_none : Decoding 0 o start_states
   unfolding out_after states_after
-  decoding_none = record { out-is = refl; states-are = refl; range = λ k. rw start_zero zero_range }
+  decoding_none = record { out_is = refl; states_are = refl; range = λ k. rw start_zero zero_range }
 
   pub length_decoding : {p : ℕ} {out : List ℤ} {states : List State} → Decoding p out states → length out ≡ length o
-  length_decoding {p} k = ap length k.out-is ∙ length-out_after (pos 0) h.channels (whole_frame h) h.samples (loop_samples h d start_states) o p
+  length_decoding {p} k = ap length k.out_is ∙ length-out_after (pos 0) h.channels (whole_frame h) h.samples (loop_samples h d start_states) o p
 
   -- a turn more, and two
   pub decoding_more : {p : ℕ} {out r : List ℤ} {states next : List State} → Decoding p out states
@@ -88,8 +88,8 @@ module _ (h : Header) (d : List ℕ) (o : List ℤ) where
   unfolding out_after states_after count
   decoding_more {p} {out} {r} {states} {next} k en er =
       record {
-        out-is = rw add-one (er ∙ rw (k.out-is, k.states-are));
-        states-are = rw add-one (en ∙ rw k.states-are);
+        out_is = rw add-one (er ∙ rw (k.out_is, k.states_are));
+        states_are = rw add-one (en ∙ rw k.states_are);
         range = rw en (turn_range h d p states k.range);
       }
 

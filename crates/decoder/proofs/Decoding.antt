@@ -16,7 +16,7 @@ use Rattle.format.proofs.Agreement.{length-decoded}
 use Rattle.format.specs.declared.Header.{Header}
 use Rattle.format.specs.declared.Error.{Error}
 use Rattle.decoder.specs.Loops.{start_states, loop_out}
-use Rattle.decoder.proofs.DecodeLoop.{loop-decodes, fresh}
+use Rattle.decoder.proofs.DecodeLoop.{loop_decodes, fresh}
 use Rattle.format.specs.declared.Error.TheVariants as E
 use Rattle.format.specs.declared.Decoded.TheVariants as D
 
@@ -32,21 +32,21 @@ module _ (d : List ℕ) (out : List ℤ) where
 
   module _ (h : Header) (q : result h ≡ inspected d) where
     -- the output is too short
-    pub decode-short : length out < h.samples * h.channels → AsDecoded d out (D.Refused (E.OutputTooShort (h.samples * h.channels))) out
+    pub decode_short : length out < h.samples * h.channels → AsDecoded d out (D.Refused (E.OutputTooShort (h.samples * h.channels))) out
     unfolding decode_call number_of values_of
-    decode-short l = as_refused (E.OutputTooShort _) (then_result _ h _ _ q (met _ _ _ _ (lt-ltb _ _ l)))
+    decode_short l = as_refused (E.OutputTooShort _) (then_result _ h _ _ q (met _ _ _ _ (lt-ltb _ _ l)))
 
     -- the loop has filled it
-    pub decode-filled : h.samples * h.channels ≤ length out → 0 < h.channels → h.channels ≤ 2 → (r : List ℤ)
+    pub decode_filled : h.samples * h.channels ≤ length out → 0 < h.channels → h.channels ≤ 2 → (r : List ℤ)
         → r ≡ loop_out h d start_states out (frames h * h.channels) → AsDecoded d out (D.Filled h) r
     unfolding decode_call decoded_of
-    decode-filled l hc h2 r e =
+    decode_filled l hc h2 r e =
         let s : Sound = record { header = h; samples = decoded h d } in
         let k : result s ≡ decode_call d (length out) = then_result _ h _ _ q (clear _ _ _ _ _ (le-ltb _ _ l) refl) in
         record {
           answered = sym (on_result_lem (λ (s : Sound). s.header) (decode_call d (length out)) (sym k));
           output_left =
-              e ∙ loop-decodes h d hc start_states h2 (λ i m. fresh i (omega arith)) out l
+              e ∙ loop_decodes h d hc start_states h2 (λ i m. fresh i (omega arith)) out l
               ∙ ap (λ n. decoded h d ++ drop n out) (sym (length-decoded h d))
               ∙ sym (output_result _ (decoded h d) out (on_result_lem (λ (s : Sound). s.samples) (decode_call d (length out)) (sym k)));
         }

@@ -119,8 +119,8 @@ module _ (h : Header) (d : List ℕ) (p : ℕ) where
 
   module _ (step : InStep h p) where
     -- the second turn finds its channel's state as it was before the first
-    pub second-finds : 0 < h.channels → (states : List State) → turn_state h (p + 1) (turn_states h d p states) ≡ turn_state h (p + 1) states
-    second-finds hc states = go step
+    pub second_finds : 0 < h.channels → (states : List State) → turn_state h (p + 1) (turn_states h d p states) ≡ turn_state h (p + 1) states
+    second_finds hc states = go step
       where
         next : (c : ℕ) → (p + 1) / c ≡ p / c → (p + 1) % c ≢ p % c
         next c e = omega (arith, div-add-mod' p c, div-add-mod' (p + 1) c, ap (◌* c) e)
@@ -132,24 +132,24 @@ module _ (h : Header) (d : List ℕ) (p : ℕ) where
             (set_self zero_state states (p % h.channels) ((p + 1) % h.channels))
 
     -- as many codes of the second are run as of the first, which has no fewer samples
-    pub second-fewer : 0 < h.channels → count h ((p + 1) / h.channels) ≤ count h (p / h.channels)
+    pub second_fewer : 0 < h.channels → count h ((p + 1) / h.channels) ≤ count h (p / h.channels)
     unfolding count
-    second-fewer hc =
+    second_fewer hc =
         let l : p / h.channels ≤ (p + 1) / h.channels = (le-div_iff_mul-le hc).1 (omega (arith, div-mul-le_self p h.channels)) in
         omega (arith, mul-le-mul_right (whole_frame h) l)
 
     module _ (s : State) (fragment : List ℕ) where
-      pub second-samples : 0 < h.channels → (samples : List ℤ)
+      pub second_samples : 0 < h.channels → (samples : List ℤ)
           → take (count h (p / h.channels)) samples ≡ (decoded_fragment h.version h.variant s fragment (count h (p / h.channels))).samples
           → take (count h ((p + 1) / h.channels)) samples ≡ (decoded_fragment h.version h.variant s fragment (count h ((p + 1) / h.channels))).samples
       unfolding decoded_fragment
-      second-samples hc samples e =
-          sym (take-take (count h ((p + 1) / h.channels)) (count h (p / h.channels)) samples (second-fewer hc))
-          ∙ rw e (take_tabulate _ (count h (p / h.channels)) (count h ((p + 1) / h.channels)) (second-fewer hc))
+      second_samples hc samples e =
+          sym (take-take (count h ((p + 1) / h.channels)) (count h (p / h.channels)) samples (second_fewer hc))
+          ∙ rw e (take_tabulate _ (count h (p / h.channels)) (count h ((p + 1) / h.channels)) (second_fewer hc))
 
-      pub second-state : {r : State} → r ≡ (decoded_fragment h.version h.variant s fragment (count h (p / h.channels))).state
+      pub second_state : {r : State} → r ≡ (decoded_fragment h.version h.variant s fragment (count h (p / h.channels))).state
           → r ≡ (decoded_fragment h.version h.variant s fragment (count h ((p + 1) / h.channels))).state
-      second-state {r} e = go step
+      second_state {r} e = go step
         where
           go : InStep h p → r ≡ (decoded_fragment h.version h.variant s fragment (count h ((p + 1) / h.channels))).state
           go (inl q) = rw q e

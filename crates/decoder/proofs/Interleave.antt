@@ -37,10 +37,10 @@ module _ {A : Type 0} (d : A) (xs : List A) (first c ch : ℕ) where
   spread_hit o (suc n) w hc h l = go (ℕ_discrete w n) (spread_hit o n w hc)
     where
       apart : (a b : ℕ) → 0 < c → a < b → (first + a) * c + ch ≢ (first + b) * c + ch
-      apart a b hc k = omega (arith, mul-le-mul_right c (add-less k))
+      apart a b hc k = omega (arith, mul-le-mul_right c (add_less k))
         where
-          add-less : a < b → suc (first + a) ≤ first + b
-          add-less k = omega arith
+          add_less : a < b → suc (first + a) ≤ first + b
+          add_less k = omega arith
 
       go : Dec (w ≡ n) → (w < n → (first + w) * c + ch < length o → get_or (spread d o xs first c ch n) ((first + w) * c + ch) d ≡ get_or xs w d)
           → get_or (set (spread d o xs first c ch n) ((first + n) * c + ch) (get_or xs n d)) ((first + w) * c + ch) d ≡ get_or xs w d

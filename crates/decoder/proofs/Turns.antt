@@ -57,15 +57,15 @@ module _ (c : ℕ) where
     now : p ≡ p / c * c + p % c
     now = sym (div-add-mod' p c)
 
-    turn-taken : turns c (suc p) (p % c) ≡ suc (p / c)
-    turn-taken = go (dec_lt (suc (p % c)) c)
+    turn_taken : turns c (suc p) (p % c) ≡ suc (p / c)
+    turn_taken = go (dec_lt (suc (p % c)) c)
       where
         go : Dec (suc (p % c) < c) → turns c (suc p) (p % c) ≡ suc (p / c)
         go (yes l) = ap (λ n. turns c n (p % c)) next ∙ turns_early (p / c) (suc (p % c)) (p % c) l (omega arith)
         go (no l) = ap (λ n. turns c n (p % c)) (wrap (omega (arith, mod-lt p hc))) ∙ turns_late (suc (p / c)) 0 (p % c) hc (mod-lt p hc) (omega arith)
 
-    turn-not : (k : ℕ) → k < c → k ≢ p % c → turns c (suc p) k ≡ turns c p k
-    turn-not k hk e = go (dec_lt (suc (p % c)) c) (dec_lt k (p % c))
+    turn_not : (k : ℕ) → k < c → k ≢ p % c → turns c (suc p) k ≡ turns c p k
+    turn_not k hk e = go (dec_lt (suc (p % c)) c) (dec_lt k (p % c))
       where
         go : Dec (suc (p % c) < c) → Dec (k < p % c) → turns c (suc p) k ≡ turns c p k
         go (yes l) (yes m) =
@@ -87,25 +87,25 @@ module _ {S : Type 0} (z : S) (c : ℕ) (g : ℕ → S → S) (states : List S) 
       length-set (states_after z c g states p) (p % c) _ ∙ length_states p
 
   module _ (fresh : (k : ℕ) → k < c → get_or states k z ≡ z) where
-    states-at : (p k : ℕ) → k < c → get_or (states_after z c g states p) k z ≡ chain z c g k (turns c p k)
+    states_at : (p k : ℕ) → k < c → get_or (states_after z c g states p) k z ≡ chain z c g k (turns c p k)
     unfolding states_after chain
-    states-at zero k hk = fresh k hk ∙ sym (ap (chain z c g k) (ap (λ n. turns c n k) zero_is ∙ turns_late c 0 0 k hc hk (omega arith)))
+    states_at zero k hk = fresh k hk ∙ sym (ap (chain z c g k) (ap (λ n. turns c n k) zero_is ∙ turns_late c 0 0 k hc hk (omega arith)))
       where
         zero_is : 0 ≡ 0 * c + 0
         zero_is = omega arith
-    states-at (suc p) k hk = go (ℕ_discrete k (p % c)) (states-at p k hk)
+    states_at (suc p) k hk = go (ℕ_discrete k (p % c)) (states_at p k hk)
       where
         go : Dec (k ≡ p % c) → get_or (states_after z c g states p) k z ≡ chain z c g k (turns c p k)
             → get_or (set (states_after z c g states p) (p % c) (g p (get_or (states_after z c g states p) (p % c) z))) k z ≡ chain z c g k (turns c (suc p) k)
         go (yes e) ih =
-            rw (e, turn-taken c p hc)
+            rw (e, turn_taken c p hc)
             (get_or-set_same (states_after z c g states p) (p % c) (g p (get_or (states_after z c g states p) (p % c) z)) z (rw length_states (omega (arith, mod-lt p hc)))
             ∙ ap (g p) ((rw e at ih) ∙ ap (chain z c g (p % c)) (turns_same c p hc))
             ∙ ap (λ n. g n (chain z c g (p % c) (p / c))) (now c p hc))
         go (no e) ih =
             get_or-set_other (states_after z c g states p) (p % c) k (g p (get_or (states_after z c g states p) (p % c) z)) z e
-            ∙ ih ∙ ap (chain z c g k) (sym (turn-not c p hc k hk e))
+            ∙ ih ∙ ap (chain z c g k) (sym (turn_not c p hc k hk e))
 
     -- the channel whose turn it is
-    pub turn-state : (p : ℕ) → get_or (states_after z c g states p) (p % c) z ≡ chain z c g (p % c) (p / c)
-    turn-state p = states-at p (p % c) (mod-lt p hc) ∙ ap (chain z c g (p % c)) (turns_same c p hc)
+    pub turn_state_lem : (p : ℕ) → get_or (states_after z c g states p) (p % c) z ≡ chain z c g (p % c) (p / c)
+    turn_state_lem p = states_at p (p % c) (mod-lt p hc) ∙ ap (chain z c g (p % c)) (turns_same c p hc)

@@ -58,10 +58,10 @@ module _ (k : Settings) (pcm : List ℤ) (c : ℕ) (o : List ℕ) where
 
   -- after p fragments, behind the first 16 bytes of the output as it was
   pub record Writing (p : ℕ) (out : List ℕ) : Type 0 where
-    pub out-is : out ≡ put_after (take 16 o) 16 (fragment_for k pcm c) (fragment_size encoder_version k.variant) o p
+    pub out_is : out ≡ put_after (take 16 o) 16 (fragment_for k pcm c) (fragment_size encoder_version k.variant) o p
 
   pub writing_none : Writing 0 o
-  writing_none = record { out-is = sym (take-append-drop 16 o) ∙ put_none _ _ _ _ _ }
+  writing_none = record { out_is = sym (take-append-drop 16 o) ∙ put_none _ _ _ _ _ }
 
   pub length_writing : (p : ℕ) {out : List ℕ} → Writing p out → 16 + p * fragment_size encoder_version k.variant ≤ length o → length out ≡ length o
   length_writing p w l =
@@ -78,7 +78,7 @@ module _ (k : Settings) (pcm : List ℤ) (c : ℕ) (o : List ℕ) where
       let same : take n s ≡ frame_of (channel pcm c (p % c)) (p / c) =
       eg ∙ ap (tabulate (λ w. get_or pcm ((p / c * 63 + w) * c + p % c) (pos 0))) en ∙ sym (gathered pcm c (p % c) (p / c)) in
       record {
-        out-is = put_more (take 16 o) 16 (length-take-le 16 o l) (fragment_for k pcm c) size (sized k pcm c 0) o p out bytes w.out-is (eb ∙ ap (encoded_fragment k) same);
+        out_is = put_more (take 16 o) 16 (length-take-le 16 o l) (fragment_for k pcm c) size (sized k pcm c 0) o p out bytes w.out-is (eb ∙ ap (encoded_fragment k) same);
       }
 
   -- the same, as the part was lent: from its start to its end, the end less the start long

@@ -27,43 +27,43 @@ frame_few false = omega arith
 
 module _ (version : ℕ) (variant : Variant) (fragment : List ℕ) where
   -- the first 64 codes, which are unpacked in every version
-  abbrev pub firstCodes : List ℕ
-  firstCodes = unpacked (bits variant) 64 (payload version fragment)
+  abbrev pub first_codes : List ℕ
+  first_codes = unpacked (bits variant) 64 (payload version fragment)
 
   -- they are the codes of what follows the prefix, and fit the variant's bits
   pub codes_first : {codes : List ℕ} {b at : ℕ} → codes ≡ unpacked b 64 (take (length fragment - at) (drop at fragment))
-      → b ≡ bits variant → at ≡ prefix version → codes ≡ firstCodes
+      → b ≡ bits variant → at ≡ prefix version → codes ≡ first_codes
   codes_first e eb ea = rw (eb, ea, tail_all (prefix version) fragment) at e
 
-  pub codes_small : {codes : List ℕ} → codes ≡ firstCodes → (i : ℕ) → get_or codes i 0 < 2 ^ bits variant
+  pub codes_small : {codes : List ℕ} → codes ≡ first_codes → (i : ℕ) → get_or codes i 0 < 2 ^ bits variant
   codes_small e i = rw e (small_digits (bits variant) 64 _ i)
 
-  codes_same : (i : ℕ) → i < frame_samples version → get_or firstCodes i 0 ≡ get_or (codes_of version variant fragment) i 0
+  codes_same : (i : ℕ) → i < frame_samples version → get_or first_codes i 0 ≡ get_or (codes_of version variant fragment) i 0
   unfolding codes_of
   codes_same i h =
       digits-at (bits variant) 64 _ i (omega (arith, frame_few (anew version)))
       ∙ sym (digits-at (bits variant) (frame_samples version) _ i h)
 
   module _ (s : State) (n : ℕ) (h : n ≤ frame_samples version) where
-    pub run-samples : {start : State} {codes : List ℕ} {volume : ℕ} {xs : List ℤ}
-        → start ≡ start_state version s fragment → codes ≡ firstCodes → volume ≡ volume_byte fragment
+    pub run_samples : {start : State} {codes : List ℕ} {volume : ℕ} {xs : List ℤ}
+        → start ≡ start_state version s fragment → codes ≡ first_codes → volume ≡ volume_byte fragment
         → xs ≡ tabulate (sample_at version variant codes start volume) n
         → xs ≡ (decoded_fragment version variant s fragment n).samples
     unfolding decoded_fragment sample_at
-    run-samples es ec ev ex =
+    run_samples es ec ev ex =
         rw (es, ec, ev) at ex
-        ∙ samples_same version variant firstCodes (codes_of version variant fragment) (start_state version s fragment) (volume_byte fragment) n
+        ∙ samples_same version variant first_codes (codes_of version variant fragment) (start_state version s fragment) (volume_byte fragment) n
         (λ i l. codes_same i (omega arith))
 
-    pub run-after : {codes : List ℕ} → codes ≡ firstCodes → (start : State)
+    pub run_after : {codes : List ℕ} → codes ≡ first_codes → (start : State)
         → after version variant codes start n ≡ after version variant (codes_of version variant fragment) start n
-    run-after ec start =
-        rw ec (after_same version variant firstCodes (codes_of version variant fragment) start n (λ i l. codes_same i (omega arith)))
+    run_after ec start =
+        rw ec (after_same version variant first_codes (codes_of version variant fragment) start n (λ i l. codes_same i (omega arith)))
 
-    pub run-state : {codes : List ℕ} {t : State} → anew version ≡ false → codes ≡ firstCodes → t ≡ after version variant codes s n
+    pub run_state : {codes : List ℕ} {t : State} → anew version ≡ false → codes ≡ first_codes → t ≡ after version variant codes s n
         → t ≡ (decoded_fragment version variant s fragment n).state
     unfolding decoded_fragment
-    run-state e ec et = rw e (et ∙ run-after ec s)
+    run_state e ec et = rw e (et ∙ run_after ec s)
 
 -- from version 3 on the samples do not depend on the given state
 pub samples_anew : (version : ℕ) (variant : Variant) (s t : State) (fragment : List ℕ) (n : ℕ) → anew version ≡ true

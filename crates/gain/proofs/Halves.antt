@@ -14,8 +14,8 @@ module _ (z : ℕ) where
       sym (ap (◌% 65536) e ∙ mul-add-mod_self_left 65536 (257 * (z / 65536) + z % 65536 / 256) (z % 65536 + z % 65536 % 256 * 256))
 
   module _ (half : ℕ) (hz : z ≤ 8355840) (hh : half ≤ 127) where
-    pub rounds-up : 65535 - 257 * half - 257 * z / 65536 ≤ 257 * z % 65536 → 257 * z / 65536 + 1 ≡ (z + half) / 255
-    rounds-up l = omega arith
+    pub rounds_up : 65535 - 257 * half - 257 * z / 65536 ≤ 257 * z % 65536 → 257 * z / 65536 + 1 ≡ (z + half) / 255
+    rounds_up l = omega arith
 
-    pub rounds-down : 257 * z % 65536 < 65535 - 257 * half - 257 * z / 65536 → 257 * z / 65536 ≡ (z + half) / 255
-    rounds-down l = omega arith
+    pub rounds_down : 257 * z % 65536 < 65535 - 257 * half - 257 * z / 65536 → 257 * z / 65536 ≡ (z + half) / 255
+    rounds_down l = omega arith

@@ -115,26 +115,26 @@ module _ {out output : List ℤ} where
   decodes_refused p = (p.answered, p.output_left)
 
   module _ {s state : State} {answer : Answer} where
-    pub plays-result : {r : DecodedFragment} → Plays (result r) s out answer state output
+    pub plays_result : {r : DecodedFragment} → Plays (result r) s out answer state output
         → (answer ≡ answer_of (result (length r.samples))) × (state ≡ r.state) × (output ≡ r.samples ++ drop (length r.samples) out)
     unfolding on_result output_after state_left
-    plays-result p = (p.answered, p.state_after, p.output_left)
+    plays_result p = (p.answered, p.state_after, p.output_left)
 
-    pub plays-refused : {n : ℕ} {vs : List ℕ} → Plays (refused n vs) s out answer state output
+    pub plays_refused : {n : ℕ} {vs : List ℕ} → Plays (refused n vs) s out answer state output
         → (answer ≡ answer_of (refused n vs)) × (state ≡ s) × (output ≡ out)
     unfolding on_result output_after state_left
-    plays-refused p = (p.answered, p.state_after, p.output_left)
+    plays_refused p = (p.answered, p.state_after, p.output_left)
 
   module _ {s : State} {answer : FragmentAnswer} where
-    pub by-value-result : {r : DecodedFragment} → PlaysByValue (result r) s out answer output
+    pub by_value_result : {r : DecodedFragment} → PlaysByValue (result r) s out answer output
         → (answer ≡ with_state (answer_of (result (length r.samples))) r.state) × (output ≡ r.samples ++ drop (length r.samples) out)
     unfolding on_result output_after state_left
-    by-value-result p = (p.answered, p.output_left)
+    by_value_result p = (p.answered, p.output_left)
 
-    pub by-value-refused : {n : ℕ} {vs : List ℕ} → PlaysByValue (refused n vs) s out answer output
+    pub by_value_refused : {n : ℕ} {vs : List ℕ} → PlaysByValue (refused n vs) s out answer output
         → (answer ≡ with_state (answer_of (refused n vs)) s) × (output ≡ out)
     unfolding on_result output_after state_left
-    by-value-refused p = (p.answered, p.output_left)
+    by_value_refused p = (p.answered, p.output_left)
 
 -- ---- "The variant, as the byte of a stream": 0, 1 and 2 are H, L and L+, and a byte above them gives 8 with the byte, before every
 -- other check ("Refuses 8, 1, 2, 3, 4, 13, in this order", "Refuses 8, 7, 14, 15, in this order")

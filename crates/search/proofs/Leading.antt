@@ -37,18 +37,18 @@ bound_tried turn index h low high e =
 
 module _ (k : Settings) (v : ℕ) (xs : List ℤ) (n : ℕ) where
   -- the sum of the trial from a start
-  abbrev sumFrom : ℕ → ℕ
-  sumFrom index = (trial_to k v xs index n).sum
+  abbrev sum_from : ℕ → ℕ
+  sum_from index = (trial_to k v xs index n).sum
 
   -- the starts of the turns before this one are tried; none of them beats b, and b is the lowest of the best
   pub record Leading (turn : ℕ) (b : Found) : Type 0 where
     pub start : b.index ≤ 88
-    pub sum : b.sum ≡ sumFrom b.index
+    pub sum : b.sum ≡ sum_from b.index
     pub small : b.sum < 2 ^ 38
-    pub least : (t : ℕ) → t < turn → b.sum ≤ sumFrom (start_at t)
-    pub lowest : (t : ℕ) → t < turn → start_at t < b.index → b.sum < sumFrom (start_at t)
+    pub least : (t : ℕ) → t < turn → b.sum ≤ sum_from (start_at t)
+    pub lowest : (t : ℕ) → t < turn → start_at t < b.index → b.sum < sum_from (start_at t)
 
-  leading_first : {index sum : ℕ} → index ≡ start_at 0 → index ≤ 88 → sum ≡ sumFrom index → sum < 2 ^ 38
+  leading_first : {index sum : ℕ} → index ≡ start_at 0 → index ≤ 88 → sum ≡ sum_from index → sum < 2 ^ 38
       → Leading 1 (record { index = index; sum = sum })
   leading_first {index} {sum} i h e m =
       record {
@@ -60,48 +60,48 @@ module _ (k : Settings) (v : ℕ) (xs : List ℤ) (n : ℕ) where
       }
 
   module _ {turn index : ℕ} {b : Found} (d : Leading turn b) (i : index ≡ start_at turn) where
-    leading-new : {t sum : ℕ} → index ≤ 88 → Tie index b.index t → sum ≡ sumFrom index → sum < b.sum + t
+    leading_new : {t sum : ℕ} → index ≤ 88 → Tie index b.index t → sum ≡ sum_from index → sum < b.sum + t
         → Leading (turn + 1) (record { index = index; sum = sum })
-    leading-new {t} {sum} h tie e l =
+    leading_new {t} {sum} h tie e l =
         record {
           start = h;
           sum = e;
           small = omega (arith, d.small, tie.small);
-          least = below_more (λ (t : ℕ). sum ≤ sumFrom (start_at t)) turn (λ t m. omega (arith, d.least t m, no_more)) (rw (← i) (omega arith));
+          least = below_more (λ (t : ℕ). sum ≤ sum_from (start_at t)) turn (λ t m. omega (arith, d.least t m, no_more)) (rw (← i) (omega arith));
           lowest =
-              below_more (λ (t : ℕ). start_at t < index → sum < sumFrom (start_at t)) turn (λ t m p. less t m p (dec_lt index b.index))
+              below_more (λ (t : ℕ). start_at t < index → sum < sum_from (start_at t)) turn (λ t m p. less t m p (dec_lt index b.index))
               (λ p. absurd (omega arith));
         }
       where
         no_more : sum ≤ b.sum
         no_more = omega (arith, tie.small)
 
-        less : (t' : ℕ) → t' < turn → start_at t' < index → Dec (index < b.index) → sum < sumFrom (start_at t')
+        less : (t' : ℕ) → t' < turn → start_at t' < index → Dec (index < b.index) → sum < sum_from (start_at t')
         less t' m p (yes a) = omega (arith, d.lowest t' m (omega arith), no_more)
         less t' m p (no a) = omega (arith, tie.loses (omega arith), d.least t' m)
 
-    leading-old : {t : ℕ} → Tie index b.index t → b.sum + t ≤ sumFrom index → Leading (turn + 1) b
-    leading-old {t} tie l =
+    leading_old : {t : ℕ} → Tie index b.index t → b.sum + t ≤ sum_from index → Leading (turn + 1) b
+    leading_old {t} tie l =
         record {
           start = d.start;
           sum = d.sum;
           small = d.small;
-          least = below_more (λ (t : ℕ). b.sum ≤ sumFrom (start_at t)) turn d.least (rw (← i) (omega arith));
+          least = below_more (λ (t : ℕ). b.sum ≤ sum_from (start_at t)) turn d.least (rw (← i) (omega arith));
           lowest =
-              below_more (λ (t : ℕ). start_at t < b.index → b.sum < sumFrom (start_at t)) turn d.lowest
+              below_more (λ (t : ℕ). start_at t < b.index → b.sum < sum_from (start_at t)) turn d.lowest
               (rw (← i) (λ a. omega (arith, tie.wins a)));
         }
 
-    leading-again : Tried turn index → Leading (turn + 1) b
-    leading-again r =
+    leading_again : Tried turn index → Leading (turn + 1) b
+    leading_again r =
         let s = r.same ∙ i in
         record {
           start = d.start;
           sum = d.sum;
           small = d.small;
-          least = below_more (λ (t : ℕ). b.sum ≤ sumFrom (start_at t)) turn d.least (rw (← s) (d.least r.when r.earlier));
+          least = below_more (λ (t : ℕ). b.sum ≤ sum_from (start_at t)) turn d.least (rw (← s) (d.least r.when r.earlier));
           lowest =
-              below_more (λ (t : ℕ). start_at t < b.index → b.sum < sumFrom (start_at t)) turn d.lowest
+              below_more (λ (t : ℕ). start_at t < b.index → b.sum < sum_from (start_at t)) turn d.lowest
               (rw (← s) (d.lowest r.when r.earlier));
         }
 
@@ -111,10 +111,10 @@ module _ (k : Settings) (v : ℕ) (xs : List ℤ) (n : ℕ) where
   leading_all {turn} {b} s d h =
       (sym (ap (λ (t : Trial). t.start) e ∙ trial_start k v xs b.index n), d.sum ∙ sym (ap (λ (t : Trial). t.sum) e))
     where
-      least : (j : ℕ) → j ≤ 88 → b.sum ≤ sumFrom j
+      least : (j : ℕ) → j ≤ 88 → b.sum ≤ sum_from j
       least j m = rw start_late at (d.least (j + 4) (omega arith))
 
-      lowest : (j : ℕ) → j < b.index → b.sum < sumFrom j
+      lowest : (j : ℕ) → j < b.index → b.sum < sum_from j
       lowest j m = rw start_late at (d.lowest (j + 4) (omega (arith, d.start)) (rw start_late m))
 
       e : best_trial k v xs ≡ trial_to k v xs b.index n
@@ -168,24 +168,24 @@ module _ (k : Settings) (v : ℕ) (xs : List ℤ) (n : ℕ) where
           leads = λ _. (d p, (a.leads p).1);
         }
 
-    pub ahead-again : Tried turn index → Ahead (turn + 1) b marks
-    ahead-again r = stays (λ p. leading-again (a.leads p).0 i r) (omega (arith, r.earlier))
+    pub ahead_again : Tried turn index → Ahead (turn + 1) b marks
+    ahead_again r = stays (λ p. leading_again (a.leads p).0 i r) (omega (arith, r.earlier))
 
     module _ {t : ℕ} (tie : Tie index b.index t) where
-      pub ahead-new : {sum : ℕ} {trace : List ℕ} → index ≤ 88 → sum ≡ sumFrom index → sum < b.sum + t → sum < 2 ^ 38
+      pub ahead_new : {sum : ℕ} {trace : List ℕ} → index ≤ 88 → sum ≡ sum_from index → sum < b.sum + t → sum < 2 ^ 38
           → take n trace ≡ marks_of k v xs index n → Ahead (turn + 1) (record { index = index; sum = sum }) trace
-      ahead-new {sum} {trace} top e l m marked =
+      ahead_new {sum} {trace} top e l m marked =
           record { within = omega arith; small = omega arith; fresh = λ z. absurd (omega arith); leads = λ _. (go (dec_lt 0 turn), marked) }
         where
           go : Dec (0 < turn) → Leading (turn + 1) (record { index = index; sum = sum })
-          go (yes p) = leading-new (a.leads p).0 i top tie e l
+          go (yes p) = leading_new (a.leads p).0 i top tie e l
           go (no p) =
               let z : turn ≡ 0 = omega arith in
               let r : turn + 1 ≡ 1 = omega arith in
               rw r (leading_first (rw z at i) top e m)
 
-      pub ahead-old : b.sum + t ≤ sumFrom index → 0 < turn → Ahead (turn + 1) b marks
-      ahead-old l = stays (λ p. leading-old (a.leads p).0 i tie l)
+      pub ahead_old : b.sum + t ≤ sum_from index → 0 < turn → Ahead (turn + 1) b marks
+      ahead_old l = stays (λ p. leading_old (a.leads p).0 i tie l)
 
   pub ahead_all : {turn : ℕ} {b : Found} {marks : List ℕ} → length xs ≡ n → Ahead turn b marks → 93 ≤ turn
       → (b.index ≡ (best_trial k v xs).start) × (b.sum ≡ (best_trial k v xs).sum)

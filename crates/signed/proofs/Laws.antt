@@ -228,8 +228,8 @@ from_top : (d : ℕ) → pos 32767 -ℤ pos d ≡ cond (ltb 32767 d) (negsuc (d 
 from_top zero = refl
 from_top (suc d) = refl
 
-pub at-depth_small : (d : ℕ) → d ≤ 65535 → mag (pos 32767 -ℤ pos d) ≤ 32767
-at-depth_small d h =
+pub at_depth_small : (d : ℕ) → d ≤ 65535 → mag (pos 32767 -ℤ pos d) ≤ 32767
+at_depth_small d h =
     rw from_top
     (cond_ind (ltb 32767 d) (negsuc (d - 32768)) (pos (32767 - d)) (λ z. mag z ≤ 32767) (λ t. omega arith) (λ t. omega arith))
 

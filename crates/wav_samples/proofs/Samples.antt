@@ -46,10 +46,10 @@ loaded_none s out = record { front = refl; rest = refl }
 
 pub loaded_next : (s : List ℕ) (out₀ out : List ℤ) (i : ℕ) (z : ℤ) → i < length out → z ≡ sample_at s i → Loaded s out₀ out i
     → Loaded s out₀ (set out i z) (i + 1)
-loaded_next s out₀ out i z h e l = record { front = fill_next (sample_at s) out i z h l.front e; rest = rest-next }
+loaded_next s out₀ out i z h e l = record { front = fill_next (sample_at s) out i z h l.front e; rest = rest_next }
   where
-    rest-next : drop (i + 1) (set out i z) ≡ drop (i + 1) out₀
-    rest-next =
+    rest_next : drop (i + 1) (set out i z) ≡ drop (i + 1) out₀
+    rest_next =
         drop-set-lt (i + 1) out i z (omega arith)
         ∙ sym (drop-drop 1 i out) ∙ ap (drop 1) l.rest ∙ drop-drop 1 i out₀
 

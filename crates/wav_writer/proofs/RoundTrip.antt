@@ -65,24 +65,24 @@ module _ (channels rate n : ℕ) where
   two = record { at = 44 + size; format = format; found = true; samples = record { start = 44; size = size } }
 
   module _ (s : List ℕ) (f : Fields s channels rate (2 * n)) where
-    format-is : format_at s 20 16 ≡ format
+    format_is : format_at s 20 16 ≡ format
     unfolding format_at
-    format-is = rw (f.encoding, f.channels_at, f.rate_at, f.byte_rate, f.align, f.bits)
+    format_is = rw (f.encoding, f.channels_at, f.rate_at, f.byte_rate, f.align, f.bits)
 
-    step-fmt : chunk_step s (44 + size) first_chunk ≡ result one
+    step_fmt : chunk_step s (44 + size) first_chunk ≡ result one
     unfolding chunk_step
-    step-fmt =
+    step_fmt =
         let a : 8 ≤ 44 + size - 12 = omega arith in
         let b : 36 ≤ 44 + size = omega arith in
-        rw (f.fmt_size, format-is)
+        rw (f.fmt_size, format_is)
         (sym (clear _ _ _ _ _ (le-ltb _ _ a)
         (clear _ _ _ _ _ (le-ltb _ _ b)
         (first_way _ _ _ _ f.fmt
         (clear _ _ _ _ _ refl (clear _ _ _ _ _ refl refl))))))
 
-    step-data : chunk_step s (44 + size) one ≡ result two
+    step_data : chunk_step s (44 + size) one ≡ result two
     unfolding chunk_step
-    step-data =
+    step_data =
         let e : 36 + 8 + size + size % 2 ≡ 44 + size = omega arith in
         let a : 8 ≤ 44 + size - 36 = omega arith in
         rw (f.data_size, e)
@@ -93,46 +93,46 @@ module _ (channels rate n : ℕ) where
         (clear _ _ _ _ _ refl refl))))))
 
     -- two chunks, and the end
-    walk-three : (k : ℕ) → walk_for (suc (suc (suc k))) s (44 + size) first_chunk ≡ result two
+    walk_three : (k : ℕ) → walk_for (suc (suc (suc k))) s (44 + size) first_chunk ≡ result two
     unfolding walk_for
-    walk-three k =
+    walk_three k =
         let a : 12 < 44 + size = omega arith in
         let b : 36 < 44 + size = omega arith in
         sym (first_way _ _ _ _ (lt-ltb _ _ a)
-        (then_result _ one _ _ (sym step-fmt)
+        (then_result _ one _ _ (sym step_fmt)
         (first_way _ _ _ _ (lt-ltb _ _ b)
-        (then_result _ two _ _ (sym step-data)
+        (then_result _ two _ _ (sym step_data)
         (second_way _ _ _ _ (le-ltb (44 + size) _ (le_refl _)) refl)))))
 
-    walk-whole : walk s (44 + size) ≡ result two
+    walk_whole : walk s (44 + size) ≡ result two
     unfolding walk
-    walk-whole = let e : 44 + size ≡ suc (suc (suc (41 + size))) = omega arith in ap (λ k. walk_for k s (44 + size) first_chunk) e ∙ walk-three (41 + size)
+    walk_whole = let e : 44 + size ≡ suc (suc (suc (41 + size))) = omega arith in ap (λ k. walk_for k s (44 + size) first_chunk) e ∙ walk_three (41 + size)
 
     module _ (fit : one_or_two channels ≡ true) (some : 0 < rate) (few : rate * frame_bytes channels ≤ 4294967295) (even : size % frame_bytes channels ≡ 0) where
-      same-rates : consistent channels rate (rate * frame_bytes channels) (frame_bytes channels) ≡ true
+      same_rates : consistent channels rate (rate * frame_bytes channels) (frame_bytes channels) ≡ true
       unfolding consistent
-      same-rates = both_true _ _ (eq-eqb (frame_bytes channels) _ refl) (eq-eqb (rate * frame_bytes channels) _ refl)
+      same_rates = both_true _ _ (eq-eqb (frame_bytes channels) _ refl) (eq-eqb (rate * frame_bytes channels) _ refl)
 
-      format-checked : check_format 1 channels rate (rate * frame_bytes channels) (frame_bytes channels) 16 ≡ result (frame_bytes channels)
+      format_checked : check_format 1 channels rate (rate * frame_bytes channels) (frame_bytes channels) 16 ≡ result (frame_bytes channels)
       unfolding check_format pcm16
-      format-checked =
+      format_checked =
           let nonzero : (rate ≡ 0 → ⊥) = λ e. omega arith in
           sym (pass _ _ _ _ _ refl
           (pass _ _ _ _ _ fit
           (clear _ _ _ _ _ (ne_eqb _ _ nonzero)
           (clear _ _ _ _ _ (le-ltb _ _ few)
-          (pass _ _ _ _ _ same-rates refl)))))
+          (pass _ _ _ _ _ same_rates refl)))))
 
-      chunks-checked : check_chunks (44 + size) two ≡ result (wave_read channels rate size)
+      chunks_checked : check_chunks (44 + size) two ≡ result (wave_read channels rate size)
       unfolding check_chunks check_data
-      chunks-checked =
+      chunks_checked =
           sym (pass _ _ _ _ _ refl
-          (then_result _ (frame_bytes channels) _ _ (sym format-checked)
+          (then_result _ (frame_bytes channels) _ _ (sym format_checked)
           (pass _ _ _ _ _ refl (pass _ _ _ _ _ (eq-eqb _ _ even) refl))))
 
-      pub wave-read : length s ≡ 44 + 2 * n → read_wave s ≡ result (wave_read channels rate (2 * n))
+      pub wave_read_lem : length s ≡ 44 + 2 * n → read_wave s ≡ result (wave_read channels rate (2 * n))
       unfolding read_wave
-      wave-read l =
+      wave_read_lem l =
           let e : size + 36 + 8 ≡ 44 + size = omega arith in
           let a : 12 ≤ length s = omega arith in
           let b : 12 ≤ 44 + size = omega arith in
@@ -142,7 +142,7 @@ module _ (channels rate n : ℕ) where
           (pass _ _ _ _ _ f.wave
           (clear _ _ _ _ _ (le-ltb _ _ b)
           (clear _ _ _ _ _ (le-ltb _ _ (le_of_eq (sym l)))
-          (then_result _ two _ _ (sym walk-whole) (sym chunks-checked))))))))
+          (then_result _ two _ _ (sym walk_whole) (sym chunks_checked))))))))
 
 -- ---- the samples
 
@@ -220,7 +220,7 @@ module _ (channels rate : ℕ) (samples : List ℤ) (room : ℕ) {bytes : List �
     pub read-written : read_wave bytes ≡ result (wave_read channels rate (2 * length samples))
     read-written =
         let a = accepted channels rate samples room q in
-        wave-read channels rate (length samples) bytes fields a.fit some a.rate_few (whole_bytes channels (length samples) a.fit whole) length_written
+        wave_read_lem channels rate (length samples) bytes fields a.fit some a.rate_few (whole_bytes channels (length samples) a.fit whole) length_written
 
     -- strict reading gives the same
     pub strict-written : read_strict bytes ≡ result (wave_read channels rate (2 * length samples))

@@ -32,11 +32,11 @@ module _ (samples : List ℤ) where
   module _ (o : List ℕ) where
     -- after i samples
     pub record Writing (i : ℕ) (out : List ℕ) : Type 0 where
-      pub out-is : out ≡ joined (λ i. stored 2 (to_twos (get_or samples i (pos 0)))) i ++ drop (2 * i) o
+      pub out_is : out ≡ joined (λ i. stored 2 (to_twos (get_or samples i (pos 0)))) i ++ drop (2 * i) o
 
     pub writing_none : Writing 0 o
     unfolding joined
-    writing_none = record { out-is = refl }
+    writing_none = record { out_is = refl }
 
     pub length_writing : (i : ℕ) {out : List ℕ} → Writing i out → 2 * i ≤ length o → length out ≡ length o
     length_writing i w l = ap length w.out-is ∙ simp (length-append, length-drop) (omega (arith, length_first i))
@@ -60,8 +60,8 @@ module _ (samples : List ℤ) where
 
     pub writing_more : (i : ℕ) {out b : List ℕ} → Writing i out → 2 * i + 2 ≤ length o → b ≡ stored 2 (to_twos (get_or samples i (pos 0)))
         → Writing (i + 1) (set (set out (2 * i) (get_or b 0 0)) (2 * i + 1) (get_or b 1 0))
-    writing_more i {out} w l e = record { out-is = stores i out (rw (length_writing i w (omega arith)) l) e ∙ next i w }
+    writing_more i {out} w l e = record { out_is = stores i out (rw (length_writing i w (omega arith)) l) e ∙ next i w }
 
-    pub writing-all : {i : ℕ} {out : List ℕ} → Writing i out → i ≡ length samples → out ≡ sample_bytes samples ++ drop (2 * length samples) o
+    pub writing_all : {i : ℕ} {out : List ℕ} → Writing i out → i ≡ length samples → out ≡ sample_bytes samples ++ drop (2 * length samples) o
     unfolding sample_bytes
-    writing-all w e = w.out-is ∙ rw e
+    writing_all w e = w.out-is ∙ rw e

@@ -6,7 +6,7 @@ use Rattle.format.specs.Step.{step_at}
 use Rattle.adpcm.proofs.Bounds.{step_low}
 use Rattle.advance.proofs.Nearest.{Chosen, cut}
 use Rattle.advance.specs.Advance.{size_at}
-use Rattle.advance.proofs.Choice.{sized_order, l-chosen, l-stepped}
+use Rattle.advance.proofs.Choice.{sized_order, l_chosen, l_stepped}
 use Rattle.advance.proofs.l_next.Goals as goal
 use Rattle.advance.proofs.l_next.Goals.{After-pick-offset}
 
@@ -26,7 +26,7 @@ known c =
     let z = c.sizes_at.ensures in
     let w = c.within-sizes.ensures in
     let m = c.room-limit.ensures in
-    l-chosen c.args.variant c.args.state c.args.input c.requires.3 c.requires.1 c.requires.2 _ _ _
+    l_chosen c.args.variant c.args.state c.args.input c.requires.3 c.requires.1 c.requires.2 _ _ _
     refl
     (rw (read16 c.args.input c.requires.2) at c.raise-x.ensures.0)
     (rw (read16 c.args.state.predictor c.requires.1.predictor) at c.raise-p.ensures.0)
@@ -55,7 +55,7 @@ pub returns : goal.returns
 returns c =
     let m = c.room-limit.ensures in
     let l = c.lower in
-    l-stepped c.args.variant c.args.state c.args.input c.requires.3 c.requires.1 c.requires.2 _ _ _
+    l_stepped c.args.variant c.args.state c.args.input c.requires.3 c.requires.1 c.requires.2 _ _ _
     refl
     (rw (read16 c.args.input c.requires.2) at c.raise-x.ensures.0)
     (rw (read16 c.args.state.predictor c.requires.1.predictor) at c.raise-p.ensures.0)

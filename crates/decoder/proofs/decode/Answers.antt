@@ -5,7 +5,7 @@ use mathlib.Core.Path.{sym}
 use Rattle.format.proofs.Accepted.{accepted}
 use Rattle.format.proofs.Sizes.{channels_few}
 use Rattle.format.specs.Answers.{inspected_of}
-use Rattle.decoder.proofs.Decoding.{decode-short, decode-filled, decode_stopped}
+use Rattle.decoder.proofs.Decoding.{decode_short, decode_filled, decode_stopped}
 use Rattle.decoder.proofs.decode.Goals as goal
 
 pub overflow_mul-needed : goal.overflow_mul-needed
@@ -17,7 +17,7 @@ overflow_mul-needed c =
 
 pub returns-then-out-needed : goal.returns-then-out-needed
 unfolding inspected_of
-returns-then-out-needed c = decode-short _ _ _ (rw c.in-Accepted.is at c.inspect.ensures) c.if-out-needed.true
+returns-then-out-needed c = decode_short _ _ _ (rw c.in-Accepted.is at c.inspect.ensures) c.if-out-needed.true
 
 pub decode_stream-requires : goal.decode_stream-requires
 unfolding inspected_of
@@ -31,7 +31,7 @@ unfolding inspected_of
 returns-else-out-needed c =
     let q = rw c.in-Accepted.is at c.inspect.ensures in
     let few = channels_few _ _ (accepted _ _ (sym q)).channels in
-    decode-filled _ _ _ q c.if-out-needed.false few.0 few.1 _ c.decode_stream.ensures
+    decode_filled _ _ _ q c.if-out-needed.false few.0 few.1 _ c.decode_stream.ensures
 
 pub returns-in-Refused : goal.returns-in-Refused
 unfolding inspected_of

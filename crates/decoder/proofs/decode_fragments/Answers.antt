@@ -57,4 +57,4 @@ pub returns : goal.returns
 returns c =
     let h = c.args.h in
     let e : c.loop-p-2.p ≡ frames h * h.channels = omega (arith, c.loop-p-2.invariant.1, c.fragment_count-fragments.ensures.0, c.loop-p-2-test.false) in
-    rw (← e) (c.loop-p-2.invariant.2 _ c.loop-p.invariant.2).out-is
+    rw (← e) (c.loop-p-2.invariant.2 _ c.loop-p.invariant.2).out_is

@@ -3,7 +3,7 @@ use Prim.Native.Nat.{◌+◌, ◌*◌, ◌<◌}
 use native.Mathlib.Omega.{arith}
 use Rattle.format.proofs.Sizes.{count_whole, place_length}
 use Rattle.format.specs.Layout.{frames}
-use Rattle.decoder.proofs.InStep.{places_few, second-samples, second-state}
+use Rattle.decoder.proofs.InStep.{places_few, second_samples, second_state}
 use Rattle.decoder.proofs.decode_places.Goals as goal
 
 pub overflow_add-p : goal.overflow_add-p
@@ -31,6 +31,6 @@ returns c =
     let r = c.play_two.ensures in (
       rw (c.fragment_at-fragment.ensures, c.count_at-n.ensures.0) at r.1,
       rw (c.fragment_at-fragment.ensures, c.count_at-n.ensures.0) at r.0,
-      second-samples a.h a.file.now a.p k.4 _ _ k.1 _ (rw (c.fragment_at-fragment2.ensures, c.count_at-n.ensures.0) at r.3),
-      second-state a.h a.file.now a.p k.4 _ _ (rw (c.fragment_at-fragment2.ensures, c.count_at-n.ensures.0) at r.2),
+      second_samples a.h a.file.now a.p k.4 _ _ k.1 _ (rw (c.fragment_at-fragment2.ensures, c.count_at-n.ensures.0) at r.3),
+      second_state a.h a.file.now a.p k.4 _ _ (rw (c.fragment_at-fragment2.ensures, c.count_at-n.ensures.0) at r.2),
     )

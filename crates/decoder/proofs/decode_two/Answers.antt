@@ -3,7 +3,7 @@ use Prim.Native.Nat.{◌+◌}
 use native.Mathlib.Omega.{arith}
 use native.Mathlib.Nat.{mod-lt}
 use mathlib.Core.Path.{refl, sym, ap, ◌∙◌}
-use Rattle.decoder.proofs.InStep.{turn_out_lem, second-finds}
+use Rattle.decoder.proofs.InStep.{turn_out_lem, second_finds}
 use Rattle.decoder.specs.Loops.{turn_states, turn_out}
 use Rattle.decoder.proofs.decode_two.Goals as goal
 
@@ -42,7 +42,7 @@ returns c =
     let k = c.requires in
     let r = c.decode_places-next.ensures in
     let before = turn_states a.h a.file.now a.p a.states in
-    let finds = second-finds a.h a.file.now a.p k.3 k.0.some a.states in
+    let finds = second_finds a.h a.file.now a.p k.3 k.0.some a.states in
     let out = turn_out_lem a.h a.file.now a.p _ a.states a.out.now _ refl r.0 refl in (
       rw (r.1, r.3, finds),
       turn_out_lem a.h a.file.now (a.p + 1) _ before _ _ (sym finds) r.2 c.put_two.ensures

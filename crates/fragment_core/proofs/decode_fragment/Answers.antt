@@ -3,13 +3,13 @@ use native.Mathlib.Omega.{arith}
 use mathlib.Core.Path.{◌≡◌, refl}
 use Rattle.format.specs.Decode.{zero_state}
 use Rattle.format.proofs.Range.{start_range}
-use Rattle.fragment_core.proofs.Fragments.{firstCodes, bits_held, codes_first, codes_small, run-samples}
+use Rattle.fragment_core.proofs.Fragments.{first_codes, bits_held, codes_first, codes_small, run_samples}
 use Rattle.fragment_core.proofs.decode_fragment.Goals as goal
 use Rattle.fragment_core.proofs.decode_fragment.Goals.{After-unpack_codes-codes}
 
 -- the 64 codes that are unpacked
-codes-are : (c : After-unpack_codes-codes) → c.unpack_codes-codes.result ≡ firstCodes 3 c.args.variant c.args.fragment.now
-codes-are c =
+codes_are : (c : After-unpack_codes-codes) → c.unpack_codes-codes.result ≡ first_codes 3 c.args.variant c.args.fragment.now
+codes_are c =
     let a = c.args in
     codes_first 3 a.variant a.fragment.now c.unpack_codes-codes.ensures c.bits.ensures refl
 
@@ -21,10 +21,10 @@ decode_codes-requires c = (
   c.steps-steps.ensures,
   rw c.fragment_start-start.ensures (start_range _),
   omega arith,
-  codes_small 3 c.args.variant c.args.fragment.now (codes-are (goal.at.decode_codes-requires c).After-unpack_codes-codes),
+  codes_small 3 c.args.variant c.args.fragment.now (codes_are (goal.at.decode_codes-requires c).After-unpack_codes-codes),
 )
 
 pub returns : goal.returns
 returns c =
-    run-samples 3 c.args.variant c.args.fragment.now zero_state _ c.requires.1
-    c.fragment_start-start.ensures (codes-are (goal.at.returns c).After-unpack_codes-codes) refl c.decode_codes.ensures.1
+    run_samples 3 c.args.variant c.args.fragment.now zero_state _ c.requires.1
+    c.fragment_start-start.ensures (codes_are (goal.at.returns c).After-unpack_codes-codes) refl c.decode_codes.ensures.1

@@ -8,7 +8,7 @@ use lib.ListN.{length}
 use borrow.Author.Tests.{lt-leb}
 use Rattle.format.specs.Layout.{frame_samples}
 use Rattle.format.proofs.Sizes.{payload_few}
-use Rattle.fragment_core.proofs.Fragments.{firstCodes, bits_held, codes_first, codes_small, run-samples, run-state}
+use Rattle.fragment_core.proofs.Fragments.{first_codes, bits_held, codes_first, codes_small, run_samples, run_state}
 use Rattle.fragment_core.proofs.decode_legacy_fragment.Goals as goal
 use Rattle.fragment_core.proofs.decode_legacy_fragment.Goals.{After-unpack_codes-codes, Start}
 
@@ -17,9 +17,9 @@ old : (c : Start) → leb 3 c.args.version ≡ false
 old c = lt-leb 3 c.args.version c.requires.0
 
 -- the 64 codes that are unpacked
-codes-are : (c : After-unpack_codes-codes)
-    → c.unpack_codes-codes.result ≡ firstCodes c.args.version c.args.variant c.args.fragment.now
-codes-are c =
+codes_are : (c : After-unpack_codes-codes)
+    → c.unpack_codes-codes.result ≡ first_codes c.args.version c.args.variant c.args.fragment.now
+codes_are c =
     let a = c.args in
     codes_first a.version a.variant a.fragment.now c.unpack_codes-codes.ensures c.bits.ensures (rw (lt-leb 3 c.args.version c.requires.0))
 
@@ -40,14 +40,14 @@ decode_codes-requires c = (
   c.steps-steps.ensures,
   c.requires.3,
   c.requires.2,
-  codes_small c.args.version c.args.variant c.args.fragment.now (codes-are (goal.at.decode_codes-requires c).After-unpack_codes-codes),
+  codes_small c.args.version c.args.variant c.args.fragment.now (codes_are (goal.at.decode_codes-requires c).After-unpack_codes-codes),
 )
 
 pub returns : goal.returns
 returns c =
     let a = c.args in
     let fits : length a.out.now ≤ frame_samples a.version = rw (old (goal.at.returns c).Start) c.requires.2 in (
-      run-state a.version a.variant a.fragment.now a.state _ fits (old (goal.at.returns c).Start) (codes-are (goal.at.returns c).After-unpack_codes-codes) c.decode_codes.ensures.0,
-      run-samples a.version a.variant a.fragment.now a.state _ fits (rw (old (goal.at.returns c).Start)) (codes-are (goal.at.returns c).After-unpack_codes-codes) refl
+      run_state a.version a.variant a.fragment.now a.state _ fits (old (goal.at.returns c).Start) (codes_are (goal.at.returns c).After-unpack_codes-codes) c.decode_codes.ensures.0,
+      run_samples a.version a.variant a.fragment.now a.state _ fits (rw (old (goal.at.returns c).Start)) (codes_are (goal.at.returns c).After-unpack_codes-codes) refl
           c.decode_codes.ensures.1,
     )

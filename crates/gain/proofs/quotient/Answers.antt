@@ -1,7 +1,7 @@
 -- `gain::quotient` meets its contract. Assumes nothing.
 use Rattle.std.proofs.Common.{◌*◌, ◌≤◌, arith}
 use Rattle.signed.proofs.Laws.{product_le}
-use Rattle.gain.proofs.Halves.{times, low_half, rounds-up, rounds-down}
+use Rattle.gain.proofs.Halves.{times, low_half, rounds_up, rounds_down}
 use Rattle.gain.proofs.quotient.Goals as goal
 use Rattle.gain.proofs.quotient.Goals.{Start}
 
@@ -27,10 +27,10 @@ pub returns-then-threshold-high : goal.returns-then-threshold-high
 returns-then-threshold-high c =
     let z = c.args.m * c.args.gain in
     let e = low_half z in let l = c.wrapping_add_u16-low.ensures in let t = c.if-threshold-high.true in
-    rw times (rounds-up z c.args.half (product (goal.at.returns-then-threshold-high c).Start) c.requires.1 (omega arith))
+    rw times (rounds_up z c.args.half (product (goal.at.returns-then-threshold-high c).Start) c.requires.1 (omega arith))
 
 pub returns-else-threshold-high : goal.returns-else-threshold-high
 returns-else-threshold-high c =
     let z = c.args.m * c.args.gain in
     let e = low_half z in let l = c.wrapping_add_u16-low.ensures in let t = c.if-threshold-high.false in
-    rw times (rounds-down z c.args.half (product (goal.at.returns-else-threshold-high c).Start) c.requires.1 (omega arith))
+    rw times (rounds_down z c.args.half (product (goal.at.returns-else-threshold-high c).Start) c.requires.1 (omega arith))

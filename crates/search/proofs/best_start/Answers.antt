@@ -3,7 +3,7 @@ use Prim.Native.Nat.{◌<◌}
 use native.Mathlib.Omega.{arith}
 use lib.Seq.{length-take-le}
 use borrow.Author.Rules.{rules}
-use Rattle.search.proofs.Leading.{ahead_none, ahead_rival, ahead-new, ahead-old, ahead-again, ahead_all, not_first, no_marks}
+use Rattle.search.proofs.Leading.{ahead_none, ahead_rival, ahead_new, ahead_old, ahead_again, ahead_all, not_first, no_marks}
 use Rattle.search.proofs.best_start.Goals as goal
 use Rattle.search.proofs.best_start.Goals.{then-sum-limit, else-sum-limit}
 
@@ -20,7 +20,7 @@ pub loop-turn-preserved-then-is_tried : goal.loop-turn-preserved-then-is_tried
 loop-turn-preserved-then-is_tried c =
     let l = c.loop-turn in
     let h : l.turn < 93 = omega (arith, c.loop-turn-test.true) in
-    (ahead-again _ _ _ _ l.invariant.0 h c.start_of-index.ensures.0 (c.is_tried.ensures c.if-is_tried.true), l.invariant.1)
+    (ahead_again _ _ _ _ l.invariant.0 h c.start_of-index.ensures.0 (c.is_tried.ensures c.if-is_tried.true), l.invariant.1)
 
 pub overflow_add-limit : goal.overflow_add-limit
 overflow_add-limit c = omega (arith, c.loop-turn.invariant.0.small, c.tie-tie.ensures.small)
@@ -47,10 +47,10 @@ loop-turn-preserved c =
       | then-sum-limit w ↦
           let o = w.if-sum-limit.true in
           let m = r.upper_bound_2 o in
-          rw (w.best-is, w.marks-is) (ahead-new _ _ _ _ a h n.0 e n.1 (r.bounded.same o) o m.0 m.1, r.upper_bound.1)
+          rw (w.best-is, w.marks-is) (ahead_new _ _ _ _ a h n.0 e n.1 (r.bounded.same o) o m.0 m.1, r.upper_bound.1)
       | else-sum-limit w ↦
           let o = w.if-sum-limit.false in
-          rw (w.best-is, w.marks-is) (ahead-old _ _ _ _ a h n.0 e (r.bounded.over o) (not_first _ _ _ _ a r.upper_bound.0 o (omega arith)), r.upper_bound.1)
+          rw (w.best-is, w.marks-is) (ahead_old _ _ _ _ a h n.0 e (r.bounded.over o) (not_first _ _ _ _ a r.upper_bound.0 o (omega arith)), r.upper_bound.1)
     ]
 
 pub returns : goal.returns

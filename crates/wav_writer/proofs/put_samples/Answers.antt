@@ -5,7 +5,7 @@ use lib.IntN.{pos}
 use mir.Syntax.{w16}
 use mir.Val.{SFits}
 use mir.Facts.{to_z-of_z}
-use Rattle.wav_writer.proofs.SampleLoop.{writing_none, writing_more, length_writing, writing-all}
+use Rattle.wav_writer.proofs.SampleLoop.{writing_none, writing_more, length_writing, writing_all}
 use Rattle.wav_writer.proofs.put_samples.Goals as goal
 
 pub loop-i-init : goal.loop-i-init
@@ -50,4 +50,4 @@ pub shape_of-out : goal.shape_of-out
 shape_of-out c = length_writing _ _ _ c.loop-i.invariant.1 (omega arith)
 
 pub returns : goal.returns
-returns c = writing-all _ _ c.loop-i.invariant.1 (omega arith)
+returns c = writing_all _ _ c.loop-i.invariant.1 (omega arith)
