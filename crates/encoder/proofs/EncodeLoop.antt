@@ -65,7 +65,7 @@ module _ (k : Settings) (pcm : List ℤ) (c : ℕ) (o : List ℕ) where
 
   pub length_writing : (p : ℕ) {out : List ℕ} → Writing p out → 16 + p * fragment_size encoder_version k.variant ≤ length o → length out ≡ length o
   length_writing p w l =
-      ap length w.out-is
+      ap length w.out_is
       ∙ length-put (take 16 o) 16 (length-take-le 16 o (omega arith)) (fragment_for k pcm c) size (sized k pcm c 0) o p l
 
   -- one fragment more: its samples are gathered, encoded, and come back in the part of the output that was lent
@@ -78,7 +78,7 @@ module _ (k : Settings) (pcm : List ℤ) (c : ℕ) (o : List ℕ) where
       let same : take n s ≡ frame_of (channel pcm c (p % c)) (p / c) =
       eg ∙ ap (tabulate (λ w. get_or pcm ((p / c * 63 + w) * c + p % c) (pos 0))) en ∙ sym (gathered pcm c (p % c) (p / c)) in
       record {
-        out_is = put_more (take 16 o) 16 (length-take-le 16 o l) (fragment_for k pcm c) size (sized k pcm c 0) o p out bytes w.out-is (eb ∙ ap (encoded_fragment k) same);
+        out_is = put_more (take 16 o) 16 (length-take-le 16 o l) (fragment_for k pcm c) size (sized k pcm c 0) o p out bytes w.out_is (eb ∙ ap (encoded_fragment k) same);
       }
 
   -- the same, as the part was lent: from its start to its end, the end less the start long

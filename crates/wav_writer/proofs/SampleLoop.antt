@@ -39,7 +39,7 @@ module _ (samples : List ℤ) where
     writing_none = record { out_is = refl }
 
     pub length_writing : (i : ℕ) {out : List ℕ} → Writing i out → 2 * i ≤ length o → length out ≡ length o
-    length_writing i w l = ap length w.out-is ∙ simp (length-append, length-drop) (omega (arith, length_first i))
+    length_writing i w l = ap length w.out_is ∙ simp (length-append, length-drop) (omega (arith, length_first i))
 
     -- two stores put a sample's bytes in
     stores : (i : ℕ) (out : List ℕ) {b : List ℕ} → 2 * i + 2 ≤ length out → b ≡ bytes_of i
@@ -51,9 +51,9 @@ module _ (samples : List ℤ) where
     next : (i : ℕ) {out : List ℕ} → Writing i out → take (2 * i) out ++ bytes_of i ++ drop (2 * i + 2) out ≡ first (i + 1) ++ drop (2 * (i + 1)) o
     unfolding joined
     next i {out} w =
-        let low : take (2 * i) out ≡ first i = ap (take (2 * i)) w.out-is ∙ take_at (first i) (drop (2 * i) o) (2 * i) (length_first i) in
+        let low : take (2 * i) out ≡ first i = ap (take (2 * i)) w.out_is ∙ take_at (first i) (drop (2 * i) o) (2 * i) (length_first i) in
         let high : drop (2 * i + 2) out ≡ drop (2 * i + 2) o =
-        sym (drop-drop 2 (2 * i) out) ∙ ap (λ l. drop 2 (drop (2 * i) l)) w.out-is
+        sym (drop-drop 2 (2 * i) out) ∙ ap (λ l. drop 2 (drop (2 * i) l)) w.out_is
         ∙ ap (drop 2) (drop_at (first i) (drop (2 * i) o) (2 * i) (length_first i)) ∙ drop-drop 2 (2 * i) o in
         let past : 2 * (i + 1) ≡ 2 * i + 2 = omega arith in
         rw (low, high, past, add-one)
@@ -64,4 +64,4 @@ module _ (samples : List ℤ) where
 
     pub writing_all : {i : ℕ} {out : List ℕ} → Writing i out → i ≡ length samples → out ≡ sample_bytes samples ++ drop (2 * length samples) o
     unfolding sample_bytes
-    writing_all w e = w.out-is ∙ rw e
+    writing_all w e = w.out_is ∙ rw e

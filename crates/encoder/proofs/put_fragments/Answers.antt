@@ -71,4 +71,4 @@ shape_of-out c =
 pub returns : goal.returns
 returns c =
     let e : c.loop-p.p ≡ (length c.args.pcm.now / c.args.channels + 62) / 63 * c.args.channels = omega (arith, c.loop-p.invariant.0) in
-    rw (← e) c.loop-p.invariant.1.out-is
+    rw (← e) c.loop-p.invariant.1.out_is
