@@ -462,10 +462,8 @@ fn replay_all(list: &mut File) -> Tally {
     }
 }
 
-// Replays a file, and prints what it gave.
-fn replay_file(rt: &HostRuntime, name: &str) -> io::Result<()> {
-    let mut list = File::open(rt, name)?;
-    let tally = replay_all(&mut list);
+// Prints what a file gave.
+fn print_tally(rt: &HostRuntime, name: &str, tally: Tally) -> io::Result<()> {
     let answers = tally.answers;
     let differ = tally.differ;
     println!(rt; "{name}: {answers} answers, {differ} differ")?;
@@ -473,6 +471,14 @@ fn replay_file(rt: &HostRuntime, name: &str) -> io::Result<()> {
         println!(rt; "the list breaks off")?;
     }
     Ok(())
+}
+
+// Replays a file, and prints what it gave.
+fn replay_file(rt: &HostRuntime, name: &str) -> io::Result<()> {
+    match File::open(rt, name) {
+        Ok(mut list) => print_tally(rt, name, replay_all(&mut list)),
+        Err(error) => eprintln!(rt; "{name}: {error}"),
+    }
 }
 
 fn main(rt: HostRuntime) -> io::Result<()> {
