@@ -1,7 +1,8 @@
 -- The paper's number and returned numbers for each case of an answer. No two answers have the same reading
 -- (proofs/Answers.antt). Assumes nothing.
-use Rattle.std.specs.Prelude.{◌≡◌, ℕ, List, [], ◌∷◌, ℤ, length, get_or}
-use Rattle.outcome.specs.Outcome.{Outcome, result, refused, on_result, output_after}
+use Rattle.std.specs.Prelude.{◌≡◌, ℕ, List, [], ◌∷◌, ℤ, length}
+use Rattle.std.specs.declared.result.Result.{Result}
+use Rattle.outcome.specs.Outcome.{Outcome, refused, outcome_of, on_result, output_after}
 use Rattle.format.specs.Decode.{DecodedFragment, called}
 use Rattle.format.specs.Encode.{encode_call}
 use Rattle.format.specs.Inspect.{Sound, decode_call}
@@ -11,17 +12,6 @@ use Rattle.format.specs.declared.Header.{Header}
 use Rattle.format.specs.declared.Settings.{Settings}
 use Rattle.format.specs.declared.Error.{Error}
 use Rattle.format.specs.declared.Error.TheVariants.{InvalidChannels, ZeroSampleRate, MisalignedInterleavedSamples, TooManySamples, InvalidVariant, TruncatedHeader, InvalidMagic, UnsupportedVersion, InvalidReservedByte, InvalidFileLength, InvalidStepIndex, NonZeroPadding, OutputTooShort, InvalidFragment, InvalidState}
-use Rattle.format.specs.declared.Values.{Values}
-use Rattle.format.specs.declared.VariantRead.{VariantRead}
-use Rattle.format.specs.declared.VariantRead.TheVariants as V'
-use Rattle.format.specs.declared.Inspected.{Inspected}
-use Rattle.format.specs.declared.Inspected.TheVariants as I
-use Rattle.format.specs.declared.Encoded.{Encoded}
-use Rattle.format.specs.declared.Encoded.TheVariants as E
-use Rattle.format.specs.declared.Decoded.{Decoded}
-use Rattle.format.specs.declared.Decoded.TheVariants as D
-use Rattle.format.specs.declared.FragmentDecoded.{FragmentDecoded}
-use Rattle.format.specs.declared.FragmentDecoded.TheVariants as F
 
 unfoldable pub number_of : Error → ℕ
 number_of (InvalidChannels b) = 1
@@ -57,45 +47,25 @@ values_of (OutputTooShort needed) = needed ∷ []
 values_of InvalidFragment = []
 values_of InvalidState = []
 
--- returned numbers as the code gives them: how many there are, and the first two, 0 where there are none
-abbrev pub given : List ℕ → Values
-given vs = record { count = length vs; first = get_or vs 0 0; second = get_or vs 1 0 }
-
 abbrev pub refusal : {A : Type 0} → Error → Outcome A
 refusal e = refused (number_of e) (values_of e)
 
-unfoldable pub variant_read_of : VariantRead → Outcome Variant
-variant_read_of (V'.Known v) = result v
-variant_read_of (V'.Refused e) = refusal e
-
-unfoldable pub inspected_of : Inspected → Outcome Header
-inspected_of (I.Accepted h) = result h
-inspected_of (I.Refused e) = refusal e
-
-unfoldable pub encoded_of : Encoded → Outcome ℕ
-encoded_of (E.Written w) = result w.length
-encoded_of (E.Refused e) = refusal e
-
-unfoldable pub decoded_of : Decoded → Outcome Header
-decoded_of (D.Filled h) = result h
-decoded_of (D.Refused e) = refusal e
-
-unfoldable pub fragment_decoded_of : FragmentDecoded → Outcome ℕ
-fragment_decoded_of (F.Filled n) = result n
-fragment_decoded_of (F.Refused e) = refusal e
+-- the answer of a call: what it gives, or the refusal of an error
+abbrev pub answered : {A : Type 0} → Result A Error → Outcome A
+answered r = outcome_of number_of values_of r
 
 -- the promise of the fragment decoder: answer, state and output are those of `called`
-pub record AsCalled (version : ℕ) (variant : Variant) (s : State) (fragment : List ℕ) (out : List ℤ) (answer : FragmentDecoded) (state : State) (output : List ℤ) : Type 0 where
-  pub answered : fragment_decoded_of answer ≡ on_result (λ (r : DecodedFragment). length r.samples) (called version variant s fragment out).answer
+pub record AsCalled (version : ℕ) (variant : Variant) (s : State) (fragment : List ℕ) (out : List ℤ) (answer : Result ℕ Error) (state : State) (output : List ℤ) : Type 0 where
+  pub answered : answered answer ≡ on_result (λ (r : DecodedFragment). length r.samples) (called version variant s fragment out).answer
   pub state_after : state ≡ (called version variant s fragment out).state
   pub output_left : output ≡ (called version variant s fragment out).output
 
 -- the promise of the whole-stream decoder: answer and output are those of decode_call
-pub record AsDecoded (d : List ℕ) (out : List ℤ) (answer : Decoded) (output : List ℤ) : Type 0 where
-  pub answered : decoded_of answer ≡ on_result (λ (s : Sound). s.header) (decode_call d (length out))
+pub record AsDecoded (d : List ℕ) (out : List ℤ) (answer : Result Header Error) (output : List ℤ) : Type 0 where
+  pub answered : answered answer ≡ on_result (λ (s : Sound). s.header) (decode_call d (length out))
   pub output_left : output ≡ output_after (on_result (λ (s : Sound). s.samples) (decode_call d (length out))) out
 
 -- the promise of the encoder: answer and output are those of encode_call
-pub record AsEncoded (k : Settings) (pcm : List ℤ) (channels rate : ℕ) (out : List ℕ) (answer : Encoded) (output : List ℕ) : Type 0 where
-  pub answered : encoded_of answer ≡ on_result length (encode_call k pcm channels rate (length out))
+pub record AsEncoded (k : Settings) (pcm : List ℤ) (channels rate : ℕ) (out : List ℕ) (answer : Result ℕ Error) (output : List ℕ) : Type 0 where
+  pub answered : answered answer ≡ on_result length (encode_call k pcm channels rate (length out))
   pub output_left : output ≡ output_after (encode_call k pcm channels rate (length out)) out

@@ -2,16 +2,18 @@
 // definitions in specs/, and what is proved of them is listed in proofs/Claims.antt.
 #![tactic(auto)]
 
-ghost use Rattle.std.specs.Prelude.{◌≡◌, ◌≤◌, [], ◌∷◌};
-ghost use Rattle.format.specs.Layout.{known_version, bits, payload_bytes, fragment_size, frame_samples, variant_byte, variant_of};
-ghost use Rattle.format.specs.Decode.{fragment_start};
-ghost use Rattle.format.specs.Answers.{number_of, values_of, given, variant_read_of};
+ghost use Rattle.std.specs.Prelude.{◌≡◌, ◌≤◌};
+ghost use Rattle.format.specs.Layout.{known_version, anew, bits, payload_bytes, prefix, fragment_size, frame_samples, variant_byte, variant_of};
+ghost use Rattle.format.specs.Decode.{zero_state, fragment_start, InRange};
+ghost use Rattle.format.specs.Answers as answers;
+
+use outcome::{Refusal, Values};
 
 // The version that the encoder writes.
 pub const VERSION: u8 = 3;
 
 // A stream's variant: codes of 4 bits (H) or of 3 bits (L, L+).
-#[derive(Clone, Copy)]
+#[derive(Clone, Copy, PartialEq, Eq)]
 pub enum Variant {
     H,
     L,
@@ -46,41 +48,34 @@ impl Variant {
     {
         (Self::FRAGMENT_SAMPLES * self.bits() + 7) / 8
     }
+}
 
-    // Bytes of a version 3 fragment.
-    pub fn fragment_size(self) -> usize
-        ensures { result ≡ fragment_size 3 self }
-    {
-        Self::FRAGMENT_PREFIX + self.payload_bytes()
-    }
+// The variant's byte in a header.
+impl From<Variant> for u8 {
+    ghost from_gives = { λ variant byte. byte ≡ variant_byte variant };
 
-    // Bytes of a fragment in versions 1 and 2.
-    pub fn legacy_fragment_size(self) -> usize
-        ensures { result ≡ fragment_size 1 self }
-    {
-        Self::LEGACY_FRAGMENT_PREFIX + self.payload_bytes()
-    }
-
-    // The variant's byte in a header.
-    pub fn byte(self) -> u8
-        ensures { result ≡ variant_byte self }
-    {
-        match self {
+    fn from(variant: Variant) -> u8 {
+        match variant {
             Variant::H => 0,
             Variant::L => 1,
             Variant::LPlus => 2,
         }
     }
+}
 
-    // The variant that a byte names, or refusal 8.
-    pub fn try_from(byte: u8) -> VariantRead
-        ensures { variant_read_of result ≡ variant_of byte }
-    {
+// The variant that a byte names, or refusal 8.
+impl TryFrom<u8> for Variant {
+    type Error = Error;
+
+    ghost try_from_gives = { λ byte answer. answers.answered answer ≡ variant_of byte };
+
+    #[tactic(auto, using(crate::proofs::Answers::no_variant), unfolding(crate::specs::Layout::variant_of))]
+    fn try_from(byte: u8) -> Result<Variant, Error> {
         match byte {
-            0 => VariantRead::Known(Variant::H),
-            1 => VariantRead::Known(Variant::L),
-            2 => VariantRead::Known(Variant::LPlus),
-            _ => VariantRead::Refused(Error::InvalidVariant(byte)),
+            0 => Ok(Variant::H),
+            1 => Ok(Variant::L),
+            2 => Ok(Variant::LPlus),
+            _ => Err(Error::InvalidVariant(byte)),
         }
     }
 }
@@ -95,24 +90,49 @@ pub fn known_version(version: u8) -> bool
     version <= 3
 }
 
-// Samples per channel of a whole frame.
-pub fn frame_samples(version: u8) -> usize
-    ensures { (result ≡ frame_samples version) × (63 ≤ result) × (result ≤ 64) }
-{
-    if 3 <= version {
-        return Variant::FRAGMENT_SAMPLES;
-    }
-    Variant::LEGACY_FRAGMENT_SAMPLES
+// How the fragments of a stream are coded: by its version and its variant.
+#[derive(Clone, Copy)]
+pub struct Coding {
+    pub version: u8,
+    pub variant: Variant,
 }
 
-// Bytes of a fragment.
-pub fn fragment_size(version: u8, variant: Variant) -> usize
-    ensures { (result ≡ fragment_size version variant) × (25 ≤ result) × (result ≤ 34) }
-{
-    if 3 <= version {
-        return variant.fragment_size();
+impl Coding {
+    // Whether each fragment starts anew, at predictor 0 and a stored index.
+    pub fn starts_anew(self) -> bool
+        ensures { result ≡ anew self.version }
+    {
+        3 <= self.version
     }
-    variant.legacy_fragment_size()
+
+    // Samples per channel of a whole frame.
+    pub fn frame_samples(self) -> usize
+        ensures { (result ≡ frame_samples self.version) × (63 ≤ result) × (result ≤ 64) }
+    {
+        if self.starts_anew() {
+            Variant::FRAGMENT_SAMPLES
+        } else {
+            Variant::LEGACY_FRAGMENT_SAMPLES
+        }
+    }
+
+    // Bytes of a fragment before its codes.
+    pub fn prefix_size(self) -> usize
+        ensures { (result ≡ prefix self.version) × (1 ≤ result) × (result ≤ 2) }
+    {
+        if self.starts_anew() {
+            Variant::FRAGMENT_PREFIX
+        } else {
+            Variant::LEGACY_FRAGMENT_PREFIX
+        }
+    }
+
+    // Bytes of a fragment.
+    pub fn fragment_size(self) -> usize
+        ensures { (result ≡ fragment_size self.version self.variant) × (25 ≤ result) × (result ≤ 34) }
+    {
+        self.prefix_size() + self.variant.payload_bytes()
+    }
 }
 
 // A channel's decoder state, laid out for C.
@@ -125,21 +145,38 @@ pub struct State {
 
 impl State {
     pub const MAX_STEP_INDEX: u8 = 88;
+}
+
+// A state that a decoding reaches: its predictor is of 16 bits, and its index at most 88.
+#[derive(Clone, Copy)]
+pub struct Reached {
+    pub state: State,
+    ghost in_range: { InRange state },
+}
+
+impl Reached {
+    // The state of a channel before its first fragment.
+    pub fn zero() -> Reached
+        ensures { result.state ≡ zero_state }
+    {
+        Reached {
+            state: State {
+                predictor: 0,
+                index: 0,
+            },
+        }
+    }
 
     // The state at the start of a version 3 fragment whose index byte is `index`; a byte above 88 counts as 88.
-    pub fn fragment_start(index: u8) -> State
-        ensures { result ≡ fragment_start index }
+    #[tactic(auto, unfolding(crate::specs::Decode::fragment_start))]
+    pub fn fragment_start(index: u8) -> Reached
+        ensures { result.state ≡ fragment_start index }
     {
-        if index < Self::MAX_STEP_INDEX {
-            State {
+        Reached {
+            state: State {
                 predictor: 0,
-                index: index as usize,
-            }
-        } else {
-            State {
-                predictor: 0,
-                index: 88,
-            }
+                index: index.min(State::MAX_STEP_INDEX) as usize,
+            },
         }
     }
 }
@@ -152,6 +189,18 @@ pub struct Header {
     pub channels: u8,
     pub rate: u32,
     pub samples: u32,
+}
+
+impl Header {
+    // How the stream's fragments are coded.
+    pub fn coding(self) -> Coding
+        ensures { result ≡ record { version = self.version; variant = self.variant } }
+    {
+        Coding {
+            version: self.version,
+            variant: self.variant,
+        }
+    }
 }
 
 // What a caller of the encoder picks: the variant, and the pre-gain of which 255 leaves the samples as they are.
@@ -181,42 +230,13 @@ pub enum Error {
     InvalidState,
 }
 
-// The numbers that a refusal returns: `count` of them, 0 in the places of the others.
-#[derive(Clone, Copy)]
-pub struct Values {
-    pub count: usize,
-    pub first: usize,
-    pub second: usize,
-}
+impl Refusal for Error {
+    ghost number_of = { answers.number_of };
 
-impl Values {
-    pub fn none() -> Values
-        ensures { result ≡ given [] }
-    {
-        Values {
-            count: 0,
-            first: 0,
-            second: 0,
-        }
-    }
+    ghost values_of = { answers.values_of };
 
-    pub fn one(first: usize) -> Values
-        ensures { result ≡ given (first ∷ []) }
-    {
-        Values {
-            count: 1,
-            first,
-            second: 0,
-        }
-    }
-}
-
-impl Error {
-    // The number in 01's table.
     #[tactic(auto, unfolding(crate::specs::Answers::number_of))]
-    pub fn number(self) -> u8
-        ensures { result ≡ number_of self }
-    {
+    fn number(self) -> u8 {
         match self {
             Error::InvalidChannels(_) => 1,
             Error::ZeroSampleRate => 2,
@@ -239,71 +259,24 @@ impl Error {
         }
     }
 
-    // The numbers returned with it.
     #[tactic(auto, unfolding(crate::specs::Answers::values_of))]
-    pub fn values(self) -> Values
-        ensures { result ≡ given (values_of self) }
-    {
+    fn values(self) -> Values {
         match self {
-            Error::InvalidChannels(b) => Values::one(b as usize),
-            Error::ZeroSampleRate => Values::none(),
-            Error::MisalignedInterleavedSamples => Values::none(),
-            Error::TooManySamples => Values::none(),
-            Error::InvalidVariant(b) => Values::one(b as usize),
-            Error::TruncatedHeader => Values::none(),
-            Error::InvalidMagic => Values::none(),
-            Error::UnsupportedVersion(b) => Values::one(b as usize),
-            Error::InvalidReservedByte(b) => Values::one(b as usize),
-            Error::InvalidFileLength { expected, actual } => Values {
-                count: 2,
-                first: expected,
-                second: actual,
-            },
-            Error::InvalidStepIndex(b) => Values::one(b as usize),
-            Error::NonZeroPadding => Values::none(),
-            Error::OutputTooShort(needed) => Values::one(needed),
-            Error::InvalidFragment => Values::none(),
-            Error::InvalidState => Values::none(),
+            Error::InvalidChannels(byte)
+            | Error::InvalidVariant(byte)
+            | Error::UnsupportedVersion(byte)
+            | Error::InvalidReservedByte(byte)
+            | Error::InvalidStepIndex(byte) => Values::One(byte as usize),
+            Error::InvalidFileLength { expected, actual } => Values::Two(expected, actual),
+            Error::OutputTooShort(needed) => Values::One(needed),
+            Error::ZeroSampleRate
+            | Error::MisalignedInterleavedSamples
+            | Error::TooManySamples
+            | Error::TruncatedHeader
+            | Error::InvalidMagic
+            | Error::NonZeroPadding
+            | Error::InvalidFragment
+            | Error::InvalidState => Values::Zero,
         }
     }
-}
-
-// What a variant byte answers.
-#[derive(Clone, Copy)]
-pub enum VariantRead {
-    Known(Variant),
-    Refused(Error),
-}
-
-// What inspection answers.
-#[derive(Clone, Copy)]
-pub enum Inspected {
-    Accepted(Header),
-    Refused(Error),
-}
-
-// What the encoder answers: how many bytes it wrote.
-#[derive(Clone, Copy)]
-pub struct Encoding {
-    pub length: usize,
-}
-
-#[derive(Clone, Copy)]
-pub enum Encoded {
-    Written(Encoding),
-    Refused(Error),
-}
-
-// What the whole-stream decoder answers: the header of the stream whose samples it wrote.
-#[derive(Clone, Copy)]
-pub enum Decoded {
-    Filled(Header),
-    Refused(Error),
-}
-
-// What the fragment decoder answers: how many samples it wrote.
-#[derive(Clone, Copy)]
-pub enum FragmentDecoded {
-    Filled(usize),
-    Refused(Error),
 }
