@@ -84,7 +84,7 @@ number_at w ds h k =
     ap (λ (y : ℕ). y % 2 ^ w) (number-drop w ds h k) ∙ number-head w (drop k ds) (small_drop w ds h k)
     ∙ get_or-drop k ds 0 0 ∙ ap (λ (i : ℕ). get_or ds i 0) (add-zero k)
 
-pow_place : (w k : ℕ) → 2 ^ (w * suc k) ≡ 2 ^ (w * k) * 2 ^ w
+pub pow_place : (w k : ℕ) → 2 ^ (w * suc k) ≡ 2 ^ (w * k) * 2 ^ w
 pow_place w k = ap (λ (e : ℕ). 2 ^ e) (mul-suc w k) ∙ pow-add 2 (w * k) w
 
 -- a number is below the power of its length
@@ -256,6 +256,12 @@ field_stored n x at l rest h =
     ∙ ap (λ (t : List ℕ). number 8 (take n t)) (drop_at (take at l) (stored n x ++ rest) at (length-take-le at l h))
     ∙ ap (number 8) (take_at (stored n x) rest n (length_digits 8 n x))
     ∙ number_digits 8 n x
+
+-- a field fits its n bytes
+pub field_lt : (n at : ℕ) (bytes : List ℕ) → Small 8 bytes → at + n ≤ length bytes → field n at bytes < 2 ^ (8 * n)
+field_lt n at bytes small h =
+    let len : length (take n (drop at bytes)) ≡ n = length-take-le n (drop at bytes) (simp length-drop (omega arith)) in
+    rw len at (number_lt 8 (take n (drop at bytes)) (small_take 8 n (drop at bytes) (λ i l. small_drop 8 bytes small at i)))
 
 -- a number that was read and is stored gives its bytes
 pub stored-field : (n at : ℕ) (bytes : List ℕ) → Small 8 bytes → at + n ≤ length bytes → stored n (field n at bytes) ≡ take n (drop at bytes)

@@ -136,3 +136,21 @@ pub fn put_le32(out: &mut [u8], at: usize, x: u32)
     out[at + 2] = (x / 256 / 256 % 256) as u8;
     out[at + 3] = (x / 256 / 256 / 256 % 256) as u8;
 }
+
+// Internal: the little-endian number in the N bytes from `at` on.
+pub fn le<const N: usize>(s: &[u8], at: usize) -> u64
+    requires { (N ≤ 8) × (at + N ≤ length s.now) }
+    ensures { (result ≡ field N at s.now) × (result < 2 ^ (8 * N)) }
+{
+    let mut bytes = [0u8; 8];
+    bytes[..N].copy_from_slice(&s[at..at + N]);
+    u64::from_le_bytes(bytes)
+}
+
+// Internal: the low N bytes of `x`, little-endian, in the N bytes from `at` on. The rest stays.
+pub fn put_le<const N: usize>(out: &mut [u8], at: usize, x: u64)
+    requires { (N ≤ 8) × (at + N ≤ length out.old) }
+    ensures { out.new ≡ take at out.old ++ stored N x ++ drop (at + N) out.old }
+{
+    out[at..at + N].copy_from_slice(&x.to_le_bytes()[..N]);
+}
