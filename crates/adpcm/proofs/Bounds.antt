@@ -1,16 +1,19 @@
 -- The bounds of the tables' entries, each by one computed test, and what follows for a step, a level, a difference and an
 -- adjustment; and what L and L+ share. Assumes nothing.
 use mathlib.Core.Path.{◌≡◌, refl}
+use mathlib.Core.Logic.{◌⊎◌, inl, inr}
 use mathlib.Core.Bool.{Bool, true, false, cond}
 use Prim.Native.Nat.{ℕ, ◌/◌, ◌%◌, ◌^◌, ◌≤◌, ◌<◌}
 use native.Mathlib.Omega.{arith}
 use lib.Dec.{T, eqb}
 use lib.IntN.{ℤ, pos, negsuc, nat_abs}
 use lib.ListN.{get_or}
+use mir.Syntax.{w32}
+use mir.Val.{to_z, of_z}
 use Rattle.lists.specs.Tables.{every, inside}
 use Rattle.lists.proofs.Tables.{at, inside_pos, inside_low, inside_high, inside-abs}
 use Rattle.signed.specs.Signed.{with_sign}
-use Rattle.signed.proofs.Laws.{nat_abs-with_sign, product_le, Read, small_read}
+use Rattle.signed.proofs.Laws.{nat_abs-with_sign, product_le, Read, small_read, up32}
 use Rattle.format.specs.Tables.{steps, h_index_adjust, l_index_adjust, l_levels, l_plus_levels, legacy_l_plus_levels}
 use Rattle.format.specs.Layout.{bits}
 use Rattle.format.specs.Step.{step_at, bit_set, h_size, l_size, levels, level_of, difference, adjustment}
@@ -39,6 +42,10 @@ module _ (index : ℕ) (h : index ≤ 88) where
   unfolding step_at
   step_high = inside_high 7 32767 (get_or steps index (pos 0)) (steps_in index h)
 
+  -- an entry as a local of 32 bits holds it
+  pub step_entry : to_z w32 (of_z w32 (get_or steps index (pos 0))) ≡ pos (step_at index)
+  step_entry = rw step_is (up32 (step_at index) (omega (arith, step_high)))
+
 -- ---- the levels, in 0..14
 
 levels_in : (version : ℕ) (variant : Variant) (code : ℕ) → T (inside (pos 0) (pos 14) (get_or (levels version variant) (code % 4) (pos 0)))
@@ -59,6 +66,9 @@ module _ (version : ℕ) (variant : Variant) (code : ℕ) where
   pub level_high : level_of version variant code ≤ 14
   unfolding level_of
   level_high = inside_high 0 14 (get_or (levels version variant) (code % 4) (pos 0)) (levels_in version variant code)
+
+  pub level_entry : to_z w32 (of_z w32 (get_or (levels version variant) (code % 4) (pos 0))) ≡ pos (level_of version variant code)
+  level_entry = rw level_is (up32 (level_of version variant code) (omega (arith, level_high)))
 
 -- ---- the adjustments, in −1..8
 
@@ -101,14 +111,11 @@ pub adjustment_read : (variant : Variant) (code : ℕ) → code < 2 ^ bits varia
     → (z : ℤ) → z ≡ adjustment variant code → Read z (adjustment variant code) 9
 adjustment_read variant code h z e = small_read z (adjustment variant code) 9 e (adjustment_small variant code h) (omega arith)
 
-pub difference_read : (version : ℕ) (variant : Variant) (index code : ℕ) → index ≤ 88
-    → (z : ℤ) → z ≡ difference version variant (step_at index) code → Read z (difference version variant (step_at index) code) 65535
-difference_read version variant index code h z e =
-    small_read z (difference version variant (step_at index) code) 65535 e
-    (difference_small (step_at index) (step_high index h) version variant code)
-    (omega arith)
-
 -- ---- L and L+, the variants of three bits
+
+pub three : (variant : Variant) → (variant ≡ L) ⊎ (variant ≡ LPlus) → bits variant ≡ 3
+three variant (inl e) = rw e
+three variant (inr e) = rw e
 
 pub difference_three : (version : ℕ) (variant : Variant) (step code : ℕ) → bits variant ≡ 3
     → difference version variant step code ≡ with_sign (bit_set code 4) (l_size (level_of version variant code) step)

@@ -2,16 +2,14 @@
 #![tactic(auto)]
 
 ghost use Rattle.std.specs.Prelude.{◌≡◌, ◌<◌, ◌≤◌, ◌^◌, nat_abs};
-ghost use Rattle.signed.specs.Signed.{with_sign};
 ghost use Rattle.format.specs.Tables as tables;
 ghost use Rattle.format.specs.Layout.{bits};
-ghost use Rattle.format.specs.Step.{step_at, bit_set, part, h_size, l_size, levels, level_of, difference, adjustment, stepped};
-ghost use Rattle.format.specs.Decode.{InRange};
+ghost use Rattle.format.specs.Step.{step_at, part, h_size, l_size, levels, level_of, size_of, sign_bit, difference, adjustment, stepped};
 
-use format::{State, Variant};
+use format::{Coding, Reached, State, Variant};
 
 // The 89 steps.
-pub const STEPS: [i32; 89] = [
+pub static STEPS: [i32; 89] = [
     7, 8, 9, 10, 11, 12, 13, 14, 16, 17, 19, 21, 23, 25, 28, 31, 34, 37, 41, 45, 50, 55, 60, 66,
     73, 80, 88, 97, 107, 118, 130, 143, 157, 173, 190, 209, 230, 253, 279, 307, 337, 371, 408, 449,
     494, 544, 598, 658, 724, 796, 876, 963, 1060, 1166, 1282, 1411, 1552, 1707, 1878, 2066, 2272,
@@ -20,54 +18,60 @@ pub const STEPS: [i32; 89] = [
 ];
 
 // What a code adds to the index: of H by the whole code, of L and L+ by its two low bits.
-pub const H_INDEX_ADJUST: [i32; 16] = [-1, -1, -1, -1, 2, 4, 6, 8, -1, -1, -1, -1, 2, 4, 6, 8];
+pub static H_INDEX_ADJUST: [i32; 16] = [-1, -1, -1, -1, 2, 4, 6, 8, -1, -1, -1, -1, 2, 4, 6, 8];
 
-pub const L_INDEX_ADJUST: [i32; 4] = [-1, 2, 4, 6];
+pub static L_INDEX_ADJUST: [i32; 4] = [-1, 2, 4, 6];
 
 // The levels, by the code's two low bits; L+ has its own in version 1.
-pub const LEGACY_L_PLUS_LEVELS: [i32; 4] = [10, 11, 12, 14];
+pub static LEGACY_L_PLUS_LEVELS: [i32; 4] = [10, 11, 12, 14];
 
-pub const L_PLUS_LEVELS: [i32; 4] = [1, 2, 3, 14];
+pub static L_PLUS_LEVELS: [i32; 4] = [1, 2, 3, 14];
 
-pub const L_LEVELS: [i32; 4] = [1, 3, 5, 7];
+pub static L_LEVELS: [i32; 4] = [1, 3, 5, 7];
 
-// The steps, to be bound once above the loops and lent down: each use of a constant array makes it anew.
-pub fn steps() -> [i32; 89]
-    ensures { result ≡ tables.steps }
+// H has no levels, and zeros stand for them.
+static H_LEVELS: [i32; 4] = [0; 4];
+
+// The table of the steps.
+#[tactic(auto, unfolding(format::specs::Tables::steps))]
+pub fn steps() -> &'static [i32; 89]
+    ensures { result.now ≡ tables.steps }
 {
-    STEPS
+    &STEPS
 }
 
 // Internal: the step at an index.
-pub fn step_size(steps: &[i32; 89], index: usize) -> u32
-    requires { (steps.now ≡ tables.steps) × (index ≤ 88) }
+#[tactic(auto, using(crate::proofs::Bounds::step_entry, crate::proofs::Bounds::step_low, crate::proofs::Bounds::step_high))]
+pub fn step_size(index: usize) -> u32
+    requires { index ≤ 88 }
     ensures { (result ≡ step_at index) × (7 ≤ result) × (result ≤ 32767) }
 {
-    steps[index] as u32
+    steps()[index] as u32
 }
 
-// The levels of a variant; H has none, and zeros stand for them.
-fn levels(version: u8, variant: Variant) -> [i32; 4]
-    ensures { result ≡ levels version variant }
+// The levels of a variant.
+#[tactic(auto, unfolding(format::specs::Tables::l_levels, format::specs::Tables::l_plus_levels, format::specs::Tables::legacy_l_plus_levels))]
+fn levels(coding: Coding) -> &'static [i32; 4]
+    ensures { result.now ≡ levels coding.version coding.variant }
 {
-    match variant {
-        Variant::H => [0; 4],
-        Variant::L => L_LEVELS,
-        Variant::LPlus => if version == 1 {
-            LEGACY_L_PLUS_LEVELS
+    match coding.variant {
+        Variant::H => &H_LEVELS,
+        Variant::L => &L_LEVELS,
+        Variant::LPlus => if coding.version == 1 {
+            &LEGACY_L_PLUS_LEVELS
         } else {
-            L_PLUS_LEVELS
+            &L_PLUS_LEVELS
         }
     }
 }
 
 // The level of a code.
-pub fn level(version: u8, variant: Variant, code: u8) -> u32
-    ensures { (result ≡ level_of version variant code) × (result ≤ 14) }
+#[tactic(auto, using(crate::proofs::Bounds::level_entry, crate::proofs::Bounds::level_high))]
+pub fn level(coding: Coding, code: u8) -> u32
+    ensures { (result ≡ level_of coding.version coding.variant code) × (result ≤ 14) }
 {
-    let table = levels(version, variant);
     let m = (code % 4) as usize;
-    table[m] as u32
+    levels(coding)[m] as u32
 }
 
 // x where `on`, else nothing.
@@ -77,38 +81,55 @@ pub fn part_of(on: bool, x: u32) -> u32
     if on { x } else { 0 }
 }
 
-// Internal: the difference of an H code.
-fn h_delta(step: u32, code: u8) -> i32
+// Internal: the size of an H code's difference.
+#[tactic(auto, unfolding(format::specs::Step::h_size))]
+fn h_size(step: u32, code: u8) -> u32
     requires { step ≤ 32767 }
-    ensures { result ≡ with_sign (bit_set code 8) (h_size step code) }
+    ensures { (result ≡ h_size step code) × (result ≤ 65535) }
 {
-    let size = step / 8
+    step / 8
         + part_of(code / 1 % 2 == 1, step / 4)
         + part_of(code / 2 % 2 == 1, step / 2)
-        + part_of(code / 4 % 2 == 1, step);
-    signed::with_sign(code / 8 % 2 == 1, size)
+        + part_of(code / 4 % 2 == 1, step)
 }
 
-// Internal: the difference of an L or L+ code.
-fn l_delta(step: u32, level: u32, code: u8) -> i32
-    requires { (step ≤ 32767) × (level ≤ 14) }
-    ensures { result ≡ with_sign (bit_set code 4) (l_size level step) }
+// Internal: the size of an L or L+ code's difference.
+#[tactic(auto, using(signed::proofs::Laws::product_le), unfolding(format::specs::Step::l_size))]
+pub fn l_size(level: u32, step: u32) -> u32
+    requires { (level ≤ 14) × (step ≤ 32767) }
+    ensures { (result ≡ l_size level step) × (result ≤ 65535) }
 {
-    signed::with_sign(code / 4 % 2 == 1, (level * step + 4) / 8)
+    (level * step + 4) / 8
 }
 
-// Internal: the difference that a code stands for.
-pub fn delta(steps: &[i32; 89], version: u8, variant: Variant, state: State, code: u8) -> i32
-    requires { (steps.now ≡ tables.steps) × (state.index ≤ 88) }
-    ensures { (result ≡ difference version variant (step_at state.index) code) × (nat_abs result ≤ 65535) }
+// Internal: the size of a code's difference.
+fn size_of(coding: Coding, step: u32, code: u8) -> u32
+    requires { step ≤ 32767 }
+    ensures { (result ≡ size_of coding.version coding.variant step code) × (result ≤ 65535) }
 {
-    let index = state.index;
-    let step = step_size(steps, index);
-    if let Variant::H = variant {
-        h_delta(step, code)
-    } else {
-        l_delta(step, level(version, variant, code), code)
+    match coding.variant {
+        Variant::H => h_size(step, code),
+        Variant::L | Variant::LPlus => l_size(level(coding, code), step),
     }
+}
+
+// The bit of a code that negates its difference.
+fn sign_bit(variant: Variant) -> u8
+    ensures { (result ≡ sign_bit variant) × (0 < result) }
+{
+    match variant {
+        Variant::H => 8,
+        Variant::L | Variant::LPlus => 4,
+    }
+}
+
+// Internal: the difference that a code stands for, at an index.
+pub fn delta(coding: Coding, index: usize, code: u8) -> i32
+    requires { index ≤ 88 }
+    ensures { (result ≡ difference coding.version coding.variant (step_at index) code) × (nat_abs result ≤ 65535) }
+{
+    let negative = code / sign_bit(coding.variant) % 2 == 1;
+    signed::with_sign(negative, size_of(coding, step_size(index), code))
 }
 
 // Internal: what a code adds to the index.
@@ -116,27 +137,26 @@ fn adjustment(variant: Variant, code: u8) -> i32
     requires { code < 2 ^ bits variant }
     ensures { (result ≡ adjustment variant code) × (nat_abs result ≤ 9) }
 {
-    if let Variant::H = variant {
-        let i = code as usize;
-        H_INDEX_ADJUST[i]
-    } else {
-        let i = (code % 4) as usize;
-        L_INDEX_ADJUST[i]
+    match variant {
+        Variant::H => H_INDEX_ADJUST[code as usize],
+        Variant::L | Variant::LPlus => {
+            let m = (code % 4) as usize;
+            L_INDEX_ADJUST[m]
+        }
     }
 }
 
 // Internal: the state after a code.
-pub fn update(steps: &[i32; 89], version: u8, variant: Variant, state: State, code: u8) -> State
-    requires { (steps.now ≡ tables.steps) × InRange state × (code < 2 ^ bits variant) }
-    ensures { result ≡ stepped version variant state code }
+pub fn update(coding: Coding, state: Reached, code: u8) -> Reached
+    requires { code < 2 ^ bits coding.variant }
+    ensures { result.state ≡ stepped coding.version coding.variant state.state code }
 {
-    let difference = delta(steps, version, variant, state, code);
-    let adjustment = adjustment(variant, code);
-    let before = state.predictor;
-    let predictor = signed::add_clamp16(before, difference);
-    let index = signed::add_clamp_to(state.index as u32, adjustment, 88) as usize;
-    State {
-        predictor: predictor,
-        index: index,
+    let before = state.state;
+    let difference = delta(coding, before.index, code);
+    let adjustment = adjustment(coding.variant, code);
+    let predictor = signed::add_clamp16(before.predictor, difference);
+    let index = signed::add_clamp_to(before.index as u32, adjustment, 88) as usize;
+    Reached {
+        state: State { predictor, index },
     }
 }

@@ -1,31 +1,43 @@
 -- `adpcm::update` meets its contract. Assumes nothing.
 use native.Mathlib.Omega.{arith}
-use Rattle.signed.proofs.Laws.{back32, abs16, read16}
+use Rattle.signed.proofs.Laws.{back32, abs16, read16, clamp_fits, clamp_to_le}
 use Rattle.format.specs.Step.{unclamped_predictor, unclamped_index, stepped}
 use Rattle.adpcm.proofs.update.Goals as goal
 
 pub add_clamp16-predictor-requires : goal.add_clamp16-predictor-requires
 add_clamp16-predictor-requires c =
+    let s = c.args.state in
     let d = c.delta-difference in
-    rw (read16 c.args.state.predictor c.requires.1.predictor, back32 d.result d.type_inv)
-    (omega (arith, abs16 c.args.state.predictor c.requires.1.predictor, d.ensures.1))
+    rw (read16 s.state.predictor s.in_range.predictor, back32 d.result d.type_inv)
+    (omega (arith, abs16 s.state.predictor s.in_range.predictor, d.ensures.1))
 
 pub add_clamp_to-index-requires : goal.add_clamp_to-index-requires
 add_clamp_to-index-requires c =
     let a = c.adjustment-adjustment in
     rw (back32 a.result a.type_inv)
-    (omega (arith, c.requires.1.index, a.ensures.1), omega arith)
+    (omega (arith, c.args.state.in_range.index, a.ensures.1), omega arith)
+
+pub invariant_of-result : goal.invariant_of-result
+invariant_of-result c =
+    let p = c.add_clamp16-predictor in
+    record {
+      in_range = record {
+        predictor = rw (back32 p.result p.type_inv, p.ensures) (clamp_fits _);
+        index = rw c.add_clamp_to-index.ensures (clamp_to_le 88 _);
+      };
+    }
 
 pub returns : goal.returns
 unfolding stepped unclamped_predictor unclamped_index
 returns c =
+    let s = c.args.state in
     let p = c.add_clamp16-predictor in
     let d = c.delta-difference in
     let a = c.adjustment-adjustment in
     rw (
       back32 p.result p.type_inv,
       p.ensures,
-      read16 c.args.state.predictor c.requires.1.predictor,
+      read16 s.state.predictor s.in_range.predictor,
       back32 d.result d.type_inv,
       d.ensures.0,
       c.add_clamp_to-index.ensures,
