@@ -7,6 +7,6 @@ pub returns-then-channels-eq1 : goal.returns-then-channels-eq1
 unfolding channels_fit
 returns-then-channels-eq1 c = rw (eq-eqb c.args.channels 1 c.if-channels-eq1.true)
 
-pub returns : goal.returns
+pub returns-else-channels-eq1 : goal.returns-else-channels-eq1
 unfolding channels_fit
-returns c = rw (ne_eqb c.args.channels 1 c.if-channels-eq1.false)
+returns-else-channels-eq1 c = rw (ne_eqb c.args.channels 1 c.if-channels-eq1.false)

@@ -8,5 +8,5 @@ pub returns : goal.returns
 unfolding frames
 returns c =
     let h = c.args.h in
-    let e : rounded_up h.samples c.frame_samples-whole.result ≡ frames h = rw c.frame_samples-whole.ensures.0 in
+    let e : rounded_up h.samples c.frame_samples-whole.result ≡ frames h = rw (c.frame_samples-whole.ensures.0, c.coding.ensures) in
     (e, rw e (frames_few h))
