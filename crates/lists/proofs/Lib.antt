@@ -2,3 +2,4 @@ pub mod ByIndex
 pub mod Tables
 pub mod Tests
 pub mod Least
+pub mod Letters
