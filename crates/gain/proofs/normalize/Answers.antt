@@ -1,30 +1,29 @@
 -- `gain::normalize` meets its contract. Assumes nothing.
-use Rattle.std.proofs.Common.{ℕ, ◌/◌, ◌^◌, ◌<◌, div-le_self, arith, to_z-of_z}
+use Rattle.std.proofs.Common.{◌≡◌, to_z, of_z, w32, arith, to_z-of_z}
 use mir.Facts.{sfits_widen}
 use Rattle.signed.specs.Signed.{on_magnitude}
 use Rattle.signed.proofs.Laws.{back32}
 use Rattle.format.specs.Gain.{normalised}
+use Rattle.gain.proofs.Laws.{normalised-fits}
 use Rattle.gain.proofs.normalize.Goals as goal
-use Rattle.gain.proofs.normalize.Goals.{After-sample_magnitude}
+use Rattle.gain.proofs.normalize.Goals.{After-clamp16}
 
-quot_small : (n v : ℕ) → n < 2 ^ 31 → n / v < 2 ^ 31
-quot_small n v h = omega (arith, div-le_self n v)
-
-pub overflow_cast-sample : goal.overflow_cast-sample
-overflow_cast-sample c = rw (to_z-of_z c.ranges.sample) (sfits_widen tt c.ranges.sample)
-
-pub sign_like-requires : goal.sign_like-requires
-sign_like-requires c = quot_small _ c.args.volume (omega arith)
-
-pub returns : goal.returns
+is : (c : After-clamp16) → to_z w32 (of_z w32 c.clamp16.result) ≡ normalised c.args.volume c.args.sample
 unfolding normalised on_magnitude
-returns c =
+is c =
     rw (
       back32 c.clamp16.result c.clamp16.type_inv,
       c.clamp16.ensures,
       back32 c.sign_like.result c.sign_like.type_inv,
       c.sign_like.ensures,
-      c.sample_magnitude.ensures.0,
-      to_z-of_z (overflow_cast-sample (goal.at.returns c).After-sample_magnitude),
+      c.unsigned_abs.ensures.value,
       to_z-of_z c.ranges.sample,
+      to_z-of_z {w = w32} (sfits_widen tt c.ranges.sample),
     )
+
+pub overflow_cast-result : goal.overflow_cast-result
+overflow_cast-result c =
+    rw (is (goal.at.overflow_cast-result c).After-clamp16) (record { sfits = omega (arith, normalised-fits c.args.volume c.args.sample) })
+
+pub returns : goal.returns
+returns c = rw (to_z-of_z (overflow_cast-result c), is (goal.at.returns c).After-clamp16)

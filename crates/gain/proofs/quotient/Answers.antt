@@ -26,11 +26,11 @@ overflow_add-result c = rw times (omega (arith, product (goal.at.overflow_add-re
 pub returns-then-threshold-high : goal.returns-then-threshold-high
 returns-then-threshold-high c =
     let z = c.args.m * c.args.gain in
-    let e = low_half z in let l = c.wrapping_add_u16-low.ensures in let t = c.if-threshold-high.true in
+    let e = low_half z in let t = c.if-threshold-high.true in
     rw times (rounds_up z c.args.half (product (goal.at.returns-then-threshold-high c).Start) c.requires.1 (omega arith))
 
 pub returns-else-threshold-high : goal.returns-else-threshold-high
 returns-else-threshold-high c =
     let z = c.args.m * c.args.gain in
-    let e = low_half z in let l = c.wrapping_add_u16-low.ensures in let t = c.if-threshold-high.false in
+    let e = low_half z in let t = c.if-threshold-high.false in
     rw times (rounds_down z c.args.half (product (goal.at.returns-else-threshold-high c).Start) c.requires.1 (omega arith))
