@@ -8,6 +8,7 @@ use mathlib.Core.List.{List, ◌++◌, append-nil}
 use lib.ListN.{length, drop}
 use lib.Seq.{drop-length}
 use borrow.Author.Tests.{lt-ltb, le-ltb, lt-leb, le-leb, eq-eqb, ne_eqb, not-true, not-false}
+use Rattle.std.specs.Result.{IsErrAnd}
 use Rattle.std.specs.declared.result.Result.{Result}
 use Rattle.std.specs.declared.result.Result.TheVariants.{Ok, Err}
 use Rattle.outcome.specs.Outcome.{Outcome, result, refused, outcome_of, listed, refuse_if, need, branch, and_then, on_result, in_order, output_after, Refuses, Refusing}
@@ -186,3 +187,10 @@ listed_once (One a) (Two c d) e = cc
 listed_once (Two a b) Zero e = cc
 listed_once (Two a b) (One c) e = cc
 listed_once (Two a b) (Two c d) e = cc
+
+-- ---- a `?` passes an error on as it is
+
+pub passed_on : {A E : Type 0} (number : E → ℕ) (values : E → List ℕ) (r : Result A E) (e : E) (o : Outcome A)
+    → IsErrAnd r (λ f. f ≡ e) → refused (number e) (values e) ≡ o → outcome_of number values r ≡ o
+passed_on number values (Ok a) e o h k = absurd h
+passed_on number values (Err f) e o h k = rw h k

@@ -1,24 +1,20 @@
 -- `inspect::inspect` meets its contract: the header's checks, and then the fragments'. Assumes nothing.
 use mathlib.Core.Path.{sym}
-use Rattle.outcome.proofs.Laws.{then_result, then_refused}
+use Rattle.outcome.proofs.Laws.{then_result, then_refused, passed_on}
 use Rattle.format.specs.Inspect.{inspected}
-use Rattle.format.specs.Answers.{inspected_of}
 use Rattle.format.proofs.Accepted.{headed}
 use Rattle.format.proofs.Sizes.{channels_few}
 use Rattle.inspect.proofs.inspect.Goals as goal
 
-pub check_fragments-requires : goal.check_fragments-requires
-unfolding inspected_of
-check_fragments-requires c =
-    let g = headed c.args.file.now _ (sym (rw c.in-Accepted.is at c.header_checks.ensures)) in
-    ((channels_few _ _ g.channels).0, g.size)
+pub returns-in_err-header : goal.returns-in_err-header
+unfolding inspected
+returns-in_err-header c = passed_on _ _ _ _ _ c.from_residual.ensures.1 (then_refused _ _ _ _ c.in_err-header.ensures)
 
-pub returns-in-Accepted : goal.returns-in-Accepted
-unfolding inspected_of inspected
-returns-in-Accepted c =
-    then_result _ _ _ _ (rw c.in-Accepted.is at c.header_checks.ensures)
-    c.check_fragments.ensures
+pub invariant_of-check_fragments : goal.invariant_of-check_fragments
+invariant_of-check_fragments c =
+    let g = headed c.args.file.now _ (sym c.in_ok-header.ensures) in
+    record { channels = (channels_few _ _ g.channels).0; whole = g.size }
 
-pub returns-in-Refused : goal.returns-in-Refused
-unfolding inspected_of inspected
-returns-in-Refused c = then_refused _ _ _ _ (rw c.in-Refused.is at c.header_checks.ensures)
+pub returns : goal.returns
+unfolding inspected
+returns c = then_result _ _ _ _ c.in_ok-header.ensures c.check_fragments.ensures

@@ -1,14 +1,7 @@
 -- `inspect::unused_zero` meets its contract. Assumes nothing.
-use native.Mathlib.Omega.{arith}
-use native.Mathlib.Nat.{mul-le-mul_left}
 use Rattle.digits.proofs.Laws.{tail_all}
 use Rattle.format.specs.Inspect.{unused_zero}
-use Rattle.format.proofs.Sizes.{bits_few}
 use Rattle.inspect.proofs.unused_zero.Goals as goal
-
-pub overflow_mul-bits : goal.overflow_mul-bits
-overflow_mul-bits c =
-    omega (arith, mul-le-mul_left c.bits.result c.requires.0, c.bits.ensures, bits_few c.args.h.variant)
 
 pub returns : goal.returns
 unfolding unused_zero
@@ -19,4 +12,5 @@ returns c f e =
       e,
       tail_all c.prefix_size-start.result c.args.fragment.now,
       c.prefix_size-start.ensures.0,
+      c.coding.ensures,
     )
