@@ -20,20 +20,17 @@ fn same_letters(file: &[u8]) -> bool
 }
 
 // Internal: what the first 16 bytes state, where the variant byte names this variant.
+#[tactic(auto, unfolding(format::specs::Layout::header_of))]
 fn header_of(file: &[u8], variant: Variant) -> Header
     requires { 16 ≤ length file.now }
     ensures { result ≡ header_of file.now variant }
 {
-    let version = file[4];
-    let channels = file[6];
-    let rate = digits::le32(file, 8);
-    let samples = digits::le32(file, 12);
     Header {
-        version,
+        version: file[4],
         variant,
-        channels,
-        rate,
-        samples,
+        channels: file[6],
+        rate: digits::le::<4>(file, 8) as u32,
+        samples: digits::le::<4>(file, 12) as u32,
     }
 }
 
