@@ -1,78 +1,73 @@
 // The code that the encoder chooses for a normalised sample.
 #![tactic(auto)]
 
-ghost use Rattle.std.specs.Prelude.{◌≡◌, ◌<◌, ◌≤◌, ◌^◌};
-ghost use Rattle.std.specs.Int.Signed.{mag};
-ghost use Rattle.format.specs.Tables as tables;
+ghost use Rattle.std.specs.Prelude.{◌≡◌, ◌<◌, ◌^◌};
 ghost use Rattle.format.specs.Layout.{bits};
-ghost use Rattle.format.specs.Decode.{InRange};
 ghost use Rattle.format.specs.Encode.{take_off, h_code, choice, l_code, code_for};
 
-use format::{State, Variant};
+use format::{Coding, Reached, Variant};
 
-// Internal: how far from the input a code's clamped result lands.
-fn error_of(steps: &[i32; 89], variant: Variant, state: State, input: i32, code: u8) -> u32
-    requires { (steps.now ≡ tables.steps) × InRange state × (mag input ≤ 32767) }
-    ensures { result ≡ (choice variant state input code).error }
+// How far from the input a code's clamped result lands.
+fn error_of(variant: Variant, state: Reached, input: i16, code: u8) -> u32
+    ensures { result ≡ (choice variant state.state input code).error }
 {
-    let difference = adpcm::delta(steps, format::VERSION, variant, state, code);
-    let predictor = state.predictor;
-    let candidate = signed::add_clamp16(predictor, difference);
-    signed::distance(input, candidate)
+    let coding = Coding {
+        version: format::VERSION,
+        variant,
+    };
+    let before = state.state;
+    let difference = adpcm::delta(coding, before.index, code);
+    let candidate = signed::add_clamp16(before.predictor, difference);
+    (input as i32).abs_diff(candidate)
 }
 
-// What is left of d when a threshold that fits into it is taken off.
-fn take_off(threshold: u32, d: u32) -> u32
+// What is left of d when a threshold that fits into it is taken off. A difference that wraps is not below d, so that no jump
+// is taken.
+pub fn take_off(threshold: u32, d: u32) -> u32
     ensures { result ≡ take_off threshold d }
 {
-    if threshold <= d { d - threshold } else { d }
+    d.min(d.wrapping_sub(threshold))
 }
 
-// Internal: the H code for a normalised sample.
-fn h_code(steps: &[i32; 89], state: State, input: i32) -> u8
-    requires { (steps.now ≡ tables.steps) × InRange state × (mag input ≤ 32767) }
-    ensures { (result ≡ h_code state input) × (result < 16) }
+// The H code for a normalised sample.
+fn h_code(state: Reached, input: i16) -> u8
+    ensures { (result ≡ h_code state.state input) × (result < 16) }
 {
-    let index = state.index;
-    let step = adpcm::step_size(steps, index);
-    let predictor = state.predictor;
-    let d = signed::distance(input, predictor);
+    let step = adpcm::step_size(state.state.index);
+    let predictor = state.state.predictor;
+    let sample = input as i32;
+    let d = sample.abs_diff(predictor);
     let after_step = take_off(step, d);
     let after_half = take_off(step / 2, after_step);
     let code = adpcm::part_of(step <= d, 4)
         + adpcm::part_of(step / 2 <= after_step, 2)
         + adpcm::part_of(step / 4 <= after_half, 1)
-        + adpcm::part_of(input < predictor, 8);
+        + adpcm::part_of(sample < predictor, 8);
     code as u8
 }
 
-// Internal: the L or L+ code for a normalised sample: the lowest of eight whose clamped result is nearest.
-fn l_code(steps: &[i32; 89], variant: Variant, state: State, input: i32) -> u8
-    requires { (steps.now ≡ tables.steps) × InRange state × (mag input ≤ 32767) }
-    ensures { (result ≡ l_code variant state input) × (result < 8) }
+// The L or L+ code for a normalised sample: the lowest of eight whose clamped result is nearest.
+fn l_code(variant: Variant, state: Reached, input: i16) -> u8
+    ensures { (result ≡ l_code variant state.state input) × (result < 8) }
 {
     let mut best_code = 0u8;
-    let mut best_error = error_of(steps, variant, state, input, 0);
-    let mut code = 1u8;
-    while code < 8 {
-        let error = error_of(steps, variant, state, input, code);
+    let mut best_error = error_of(variant, state, input, 0);
+    for code in 1..8u8 {
+        let error = error_of(variant, state, input, code);
         if error < best_error {
             best_code = code;
             best_error = error;
         }
-        code += 1;
     }
     best_code
 }
 
-// Internal: the code for a normalised sample; the caller then updates its state with it.
-pub fn encode_code(steps: &[i32; 89], variant: Variant, state: State, input: i32) -> u8
-    requires { (steps.now ≡ tables.steps) × InRange state × (mag input ≤ 32767) }
-    ensures { (result ≡ code_for variant state input) × (result < 2 ^ bits variant) }
+// The code for a normalised sample; the caller then updates its state with it.
+pub fn encode_code(variant: Variant, state: Reached, input: i16) -> u8
+    ensures { (result ≡ code_for variant state.state input) × (result < 2 ^ bits variant) }
 {
-    if let Variant::H = variant {
-        h_code(steps, state, input)
-    } else {
-        l_code(steps, variant, state, input)
+    match variant {
+        Variant::H => h_code(state, input),
+        Variant::L | Variant::LPlus => l_code(variant, state, input),
     }
 }
