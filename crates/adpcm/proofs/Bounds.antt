@@ -18,10 +18,8 @@ use Rattle.signed.proofs.Laws.{nat_abs-with_sign, product_le, Read, small_read, 
 use Rattle.format.specs.Tables.{steps, h_index_adjust, l_index_adjust, l_levels, l_plus_levels, legacy_l_plus_levels}
 use Rattle.format.specs.Layout.{bits}
 use Rattle.format.specs.Step.{step_at, bit_set, h_size, l_size, levels, level_of, difference, adjustment}
-use Rattle.format.specs.Encode.{l_code, code_for}
 use Rattle.format.specs.declared.Variant.{Variant}
 use Rattle.format.specs.declared.Variant.TheVariants.{H, L, LPlus}
-use Rattle.format.specs.declared.State.{State}
 use Rattle.format.proofs.Sizes.{part_le}
 
 -- ---- the steps, in 7..32767
@@ -133,8 +131,3 @@ pub adjustment_three : (variant : Variant) (code : ℕ) → bits variant ≡ 3 �
 adjustment_three H code e = let z : ⊥ = omega arith in absurd z
 adjustment_three L code e = refl
 adjustment_three LPlus code e = refl
-
-pub code_three : (variant : Variant) (s : State) (input : ℤ) → bits variant ≡ 3 → code_for variant s input ≡ l_code variant s input
-code_three H s input e = let z : ⊥ = omega arith in absurd z
-code_three L s input e = refl
-code_three LPlus s input e = refl

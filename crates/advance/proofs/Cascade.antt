@@ -47,13 +47,6 @@ bits true true true true = record { one = refl; two = refl; four = refl; eight =
 
 -- ---- what is taken off
 
-pub rest_is : (t d r : ℕ) → (t ≤ d → r + t ≡ d) → (d < t → r ≡ d) → r ≡ take_off t d
-rest_is t d r f g = go (dec_lt d t)
-  where
-    go : Dec (d < t) → r ≡ take_off t d
-    go (yes l) = rw (lt-leb t d l) (g l)
-    go (no l) = let h : t ≤ d = omega arith in rw (le-leb t d h) (omega (arith, f h))
-
 taken : (t d : ℕ) → part (leb t d) t + take_off t d ≡ d
 taken t d = go (dec_lt d t)
   where

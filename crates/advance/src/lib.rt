@@ -3,63 +3,22 @@
 #![tactic(auto)]
 
 ghost use Rattle.std.specs.Prelude.{◌≡◌, ◌+◌, ◌-◌, ◌<◌, ◌≤◌, min, if◌then◌else◌};
-ghost use Rattle.std.specs.Int.Signed.{mag};
 ghost use Rattle.lists.specs.Lists.{tabulate};
-ghost use Rattle.format.specs.Tables as tables;
 ghost use Rattle.format.specs.Layout.{bits};
-ghost use Rattle.format.specs.Step.{step_at, l_size, stepped};
-ghost use Rattle.format.specs.Decode.{InRange};
+ghost use Rattle.format.specs.Step.{step_at, stepped};
 ghost use Rattle.format.specs.Encode.{h_code, l_code, code_for};
 ghost use Rattle.format.specs.declared.Variant.TheVariants as variants;
 ghost use Rattle.advance.specs.Advance.{size_entry, Sized, Within, Landed};
 
-use format::{State, Variant};
-
-// The smaller of two numbers.
-fn smaller(a: u32, b: u32) -> u32
-    ensures { result ≡ min a b }
-{
-    if b < a { b } else { a }
-}
-
-// Internal: what is left of d when a threshold that fits into it is taken off. A difference that wraps is not below d, so
-// that no jump is taken.
-fn rest(threshold: u32, d: u32) -> u32
-    requires { 0 < threshold }
-    ensures { (result ≤ d) × (threshold ≤ d → result + threshold ≡ d) × (d < threshold → result ≡ d) }
-{
-    let w = std::num::wrapping_sub_u32(d, threshold);
-    if w < d { w } else { d }
-}
-
-// n where `on`, else 0.
-fn count_of(on: bool, n: usize) -> usize
-    ensures { (result ≡ (if on then n else 0)) × (result ≤ n) }
-{
-    if on { n } else { 0 }
-}
-
-// n, at most 88.
-fn at_most_88(n: usize) -> usize
-    ensures { result ≡ min n 88 }
-{
-    if 88 < n { 88 } else { n }
-}
-
-// One less, at least 0.
-fn one_less(n: usize) -> usize
-    ensures { result ≡ n - 1 }
-{
-    if 0 < n { n - 1 } else { 0 }
-}
+use format::{Coding, Reached, Settings, State, Variant};
 
 // Internal: the index moved up, to at most 88, or down by 1, to at least 0.
-fn moved(index: usize, up: bool, by: usize) -> usize
+fn moved(index: usize, up: bool, by: u32) -> usize
     requires { (index ≤ 88) × (by ≤ 88) }
     ensures { result ≡ (if up then min (index + by) 88 else index - 1) }
 {
-    let high = at_most_88(index + by);
-    let low = one_less(index);
+    let high = (index + by as usize).min(88);
+    let low = index.saturating_sub(1);
     if up { high } else { low }
 }
 
@@ -70,30 +29,31 @@ fn h_landed(x: u32, p: u32, eighth: u32, last: u32) -> u32
     ensures { (x < p → result ≡ x + last - eighth) × (p ≤ x → result ≡ min (x + eighth - last) 65535) × (result ≤ 65535) }
 {
     if x < p {
-        signed::less(x + last, eighth)
+        (x + last).saturating_sub(eighth)
     } else {
-        smaller(x + eighth - last, 65535)
+        (x + eighth - last).min(65535)
     }
 }
 
-// Internal: the state after the H code for a normalised sample, without the code.
-fn h_next(steps: &[i32; 89], state: State, input: i32) -> State
-    requires { (steps.now ≡ tables.steps) × InRange state × (mag input ≤ 32767) }
-    ensures { result ≡ stepped 3 variants.H state (h_code state input) }
+// The state after the H code for a normalised sample, without the code.
+fn h_next(state: Reached, input: i16) -> Reached
+    ensures { result.state ≡ stepped 3 variants.H state.state (h_code state.state input) }
 {
-    let index = state.index;
-    let predictor = state.predictor;
-    let step = adpcm::step_size(steps, index);
-    let x = signed::raise(input);
+    let index = state.state.index;
+    let predictor = state.state.predictor;
+    let step = adpcm::step_size(index);
+    let x = signed::raise(input as i32);
     let p = signed::raise(predictor);
-    let d = signed::gap(x, p);
-    let half = rest(step, d);
-    let quarter = rest(step / 2, half);
-    let last = rest(step / 4, quarter);
-    let by = 2 + count_of(step / 2 <= half, 4) + count_of(step / 4 <= quarter, 2);
-    State {
-        predictor: signed::lower(h_landed(x, p, step / 8, last)),
-        index: moved(index, step <= d, by),
+    let d = x.abs_diff(p);
+    let half = choice::take_off(step, d);
+    let quarter = choice::take_off(step / 2, half);
+    let last = choice::take_off(step / 4, quarter);
+    let by = 2 + adpcm::part_of(step / 2 <= half, 4) + adpcm::part_of(step / 4 <= quarter, 2);
+    Reached {
+        state: State {
+            predictor: signed::lower(h_landed(x, p, step / 8, last)),
+            index: moved(index, step <= d, by),
+        },
     }
 }
 
@@ -106,44 +66,6 @@ pub struct Sizes {
     pub d: u32,
 }
 
-// Internal: the size of a difference.
-fn l_size(level: u32, step: u32) -> u32
-    requires { (level ≤ 14) × (step ≤ 32767) }
-    ensures { (result ≡ l_size level step) × (result ≤ 65535) }
-{
-    (level * step + 4) / 8
-}
-
-// Internal: the sizes of L or L+, a row of four for each index, to be made once above the loops and lent down; of H zeros.
-pub fn size_table(steps: &[i32; 89], variant: Variant) -> [u32; 356]
-    requires { steps.now ≡ tables.steps }
-    ensures { result ≡ tabulate (size_entry variant) 356 }
-{
-    let mut table = [0u32; 356];
-    let mut k: usize = 0;
-    while k < 356 {
-        let level = adpcm::level(format::VERSION, variant, (k % 4) as u8);
-        let step = adpcm::step_size(steps, k / 4);
-        table[k] = l_size(level, step);
-        k += 1;
-    }
-    table
-}
-
-// Internal: the four sizes at an index.
-fn sizes_at(table: &[u32; 356], variant: Variant, index: usize) -> Sizes
-    requires { (table.now ≡ tabulate (size_entry variant) 356) × (index ≤ 88) }
-    ensures { Sized variant (step_at index) result }
-{
-    let row = 4 * index;
-    Sizes {
-        a: table[row],
-        b: table[row + 1],
-        c: table[row + 2],
-        d: table[row + 3],
-    }
-}
-
 // Internal: the sizes cut off at a limit. Most often none is, and then nothing waits for it.
 fn within(sizes: Sizes, limit: u32) -> Sizes
     requires { (sizes.a ≤ sizes.d) × (sizes.b ≤ sizes.d) × (sizes.c ≤ sizes.d) }
@@ -153,9 +75,9 @@ fn within(sizes: Sizes, limit: u32) -> Sizes
         return sizes;
     }
     Sizes {
-        a: smaller(sizes.a, limit),
-        b: smaller(sizes.b, limit),
-        c: smaller(sizes.c, limit),
+        a: sizes.a.min(limit),
+        b: sizes.b.min(limit),
+        c: sizes.c.min(limit),
         d: limit,
     }
 }
@@ -192,49 +114,85 @@ fn l_landed(x: u32, p: u32, twice: u32, offset: u32) -> u32
     }
 }
 
-// Internal: the state after the L or L+ code for a normalised sample, without the eight candidates: which of the four toward the
-// sample is the nearest, as many of the three middles between them lie short of the sample.
-fn l_next(table: &[u32; 356], variant: Variant, state: State, input: i32) -> State
-    requires { (table.now ≡ tabulate (size_entry variant) 356) × InRange state × (mag input ≤ 32767) × (bits variant ≡ 3) }
-    ensures { result ≡ stepped 3 variant state (l_code variant state input) }
-{
-    let index = state.index;
-    let predictor = state.predictor;
-    let x = signed::raise(input);
-    let p = signed::raise(predictor);
-    let twice = 2 * signed::gap(x, p);
-    let limit = room(x, p);
-    let sizes = within(sizes_at(table, variant, index), limit);
-    let a = sizes.a;
-    let b = sizes.b;
-    let c = sizes.c;
-    let d = sizes.d;
-    let m = count_of(a + b < twice, 1) + count_of(b + c < twice, 1) + count_of(c + d < twice, 1);
-    let offset = pick(
-        c + d < twice,
-        d,
-        pick(b + c < twice, c, pick(a + b < twice, b, a)),
-    );
-    State {
-        predictor: signed::lower(l_landed(x, p, twice, offset)),
-        index: moved(index, a + b < twice, 2 * m),
-    }
+// What the encoder needs at each sample: the settings, and the sizes of L or L+ at each index, a row of four for each; of H zeros.
+pub struct Coder {
+    pub settings: Settings,
+    sizes: [u32; 356],
+    ghost sized: { sizes ≡ tabulate (size_entry settings.variant) 356 },
 }
 
-// Internal: the state after the code for a normalised sample.
-pub fn next_state(
-    steps: &[i32; 89],
-    table: &[u32; 356],
-    variant: Variant,
-    state: State,
-    input: i32,
-) -> State
-    requires { (steps.now ≡ tables.steps) × (table.now ≡ tabulate (size_entry variant) 356) × InRange state × (mag input ≤ 32767) }
-    ensures { result ≡ stepped 3 variant state (code_for variant state input) }
-{
-    if let Variant::H = variant {
-        h_next(steps, state, input)
-    } else {
-        l_next(table, variant, state, input)
+impl Coder {
+    // The coder of these settings.
+    pub fn new(settings: Settings) -> Coder
+        ensures { result.settings ≡ settings }
+    {
+        let coding = Coding {
+            version: format::VERSION,
+            variant: settings.variant,
+        };
+        let mut sizes = [0u32; 356];
+        for (k, size) in sizes.iter_mut().enumerate() {
+            let level = adpcm::level(coding, (k % 4) as u8);
+            let step = adpcm::step_size(k / 4);
+            *size = adpcm::l_size(level, step);
+        }
+        Coder { settings, sizes }
+    }
+
+    // Internal: the four sizes at an index.
+    fn sizes_at(&self, index: usize) -> Sizes
+        requires { index ≤ 88 }
+        ensures { Sized self.now.settings.variant (step_at index) result }
+    {
+        let row = 4 * index;
+        Sizes {
+            a: self.sizes[row],
+            b: self.sizes[row + 1],
+            c: self.sizes[row + 2],
+            d: self.sizes[row + 3],
+        }
+    }
+
+    // Internal: the state after the L or L+ code for a normalised sample, without the eight candidates: which of the four toward the
+    // sample is the nearest, as many of the three middles between them lie short of the sample.
+    fn l_next(&self, state: Reached, input: i16) -> Reached
+        requires { bits self.now.settings.variant ≡ 3 }
+        ensures { result.state ≡ stepped 3 self.now.settings.variant state.state (l_code self.now.settings.variant state.state input) }
+    {
+        let index = state.state.index;
+        let predictor = state.state.predictor;
+        let x = signed::raise(input as i32);
+        let p = signed::raise(predictor);
+        let twice = 2 * x.abs_diff(p);
+        let limit = room(x, p);
+        let sizes = within(self.sizes_at(index), limit);
+        let a = sizes.a;
+        let b = sizes.b;
+        let c = sizes.c;
+        let d = sizes.d;
+        let m = adpcm::part_of(a + b < twice, 1)
+            + adpcm::part_of(b + c < twice, 1)
+            + adpcm::part_of(c + d < twice, 1);
+        let offset = pick(
+            c + d < twice,
+            d,
+            pick(b + c < twice, c, pick(a + b < twice, b, a)),
+        );
+        Reached {
+            state: State {
+                predictor: signed::lower(l_landed(x, p, twice, offset)),
+                index: moved(index, a + b < twice, 2 * m),
+            },
+        }
+    }
+
+    // The state after the code for a normalised sample.
+    pub fn next(&self, state: Reached, input: i16) -> Reached
+        ensures { result.state ≡ stepped 3 self.now.settings.variant state.state (code_for self.now.settings.variant state.state input) }
+    {
+        match self.settings.variant {
+            Variant::H => h_next(state, input),
+            Variant::L | Variant::LPlus => self.l_next(state, input),
+        }
     }
 }

@@ -1,0 +1,17 @@
+-- `advance::Coder::sizes_at` meets its contract. Assumes nothing.
+use Rattle.std.proofs.Common.{◌≡◌, ◌+◌, ◌*◌, get_or, ap, ◌∙◌, arith}
+use Rattle.advance.proofs.Rows.{row_at}
+use Rattle.advance.proofs.Coder.sizes_at.Goals as goal
+
+pub returns : goal.returns
+returns c =
+    let s = c.args.self.now in
+    let e = s.sized in
+    let i = c.args.index in
+    let z : 4 * i ≡ 4 * i + 0 = omega arith in
+    record {
+      first = ap (λ k. get_or s.sizes k 0) z ∙ row_at _ e i 0 c.requires (omega arith);
+      second = row_at _ e i 1 c.requires (omega arith);
+      third = row_at _ e i 2 c.requires (omega arith);
+      fourth = row_at _ e i 3 c.requires (omega arith);
+    }
