@@ -211,9 +211,21 @@ rest_set bytes small used k le ne =
     ne_eqb _ _
     (λ e. ne (sym (number_at 8 bytes small k) ∙ ap (λ (y : ℕ). y % 256) (rest_less (number 8 bytes) le e)))
 
--- there is no bit past the last byte
-pub rest_end : (bytes : List ℕ) → Small 8 bytes → number 8 bytes / 2 ^ (8 * length bytes) ≡ 0
-rest_end bytes small = div-eq_of_lt (number_lt 8 bytes small)
+-- bytes that are all 0
+pub number_none : (w : ℕ) (ds : List ℕ) → ((i : ℕ) → i < length ds → get_or ds i 0 ≡ 0) → number w ds ≡ 0
+unfolding number
+number_none w [] h = refl
+number_none w (d ∷ ds) h =
+    omega (
+      arith,
+      h zero (zero-lt-suc (length ds)),
+      ap (2 ^ w *◌) (number_none w ds (λ i l. h (suc i) (suc-le-suc l))),
+      mul-zero (2 ^ w),
+    )
+
+-- no bit is set from byte k on where the bytes from it on are 0
+pub rest_none : (bytes : List ℕ) → Small 8 bytes → (k : ℕ) → ((i : ℕ) → i < length (drop k bytes) → get_or (drop k bytes) i 0 ≡ 0) → number 8 bytes / 2 ^ (8 * k) ≡ 0
+rest_none bytes small k h = number-drop 8 bytes small k ∙ number_none 8 (drop k bytes) h
 
 -- ---- a part of the digits
 

@@ -10,7 +10,7 @@ ghost use Rattle.digits.specs.Digits.{number, digits, stored, field, packed, unp
 fn at_or_zero(s: &[u8], k: usize) -> u64
     ensures { (result ≡ get_or s.now k 0) × (result < 256) }
 {
-    if k < s.len() { s[k] as u64 } else { 0 }
+    s.get(k).copied().unwrap_or(0) as u64
 }
 
 // Internal: a power of two. A product, a quotient or a remainder by it compiles to a shift or a mask.
@@ -42,18 +42,15 @@ pub fn regroup(src: &[u8], a: usize, dst: &mut [u8], b: usize)
 {
     let mut acc: u64 = 0;
     let mut have: usize = 0;
-    let mut i: usize = 0;
-    let mut j: usize = 0;
-    while j < dst.len() {
+    let mut digits = src.iter();
+    for digit in dst.iter_mut() {
         while have < b {
-            acc = acc + at_or_zero(src, i) * pow2(have);
-            have = have + a;
-            i = i + 1;
+            acc += digits.next().copied().unwrap_or(0) as u64 * pow2(have);
+            have += a;
         }
-        dst[j] = (acc % pow2(b)) as u8;
-        acc = acc / pow2(b);
-        have = have - b;
-        j = j + 1;
+        *digit = (acc % pow2(b)) as u8;
+        acc /= pow2(b);
+        have -= b;
     }
 }
 
@@ -76,29 +73,13 @@ pub fn pack_codes(codes: &[u8], bits: usize, out: &mut [u8])
     regroup(codes, bits, out, 8);
 }
 
-// Internal: the same in the `len` bytes of `out` from `at` on. The rest stays.
-pub fn pack_codes_at(codes: &[u8], bits: usize, out: &mut [u8], at: usize, len: usize)
-    requires bits_nonzero { (0 < bits) × (bits ≤ 8) × (len < 2 ^ 32) × (at + len ≤ length out.old) }
-    requires by_index { (i : ℕ) → get_or codes.now i 0 < 2 ^ bits }
-    ensures { out.new ≡ take at out.old ++ packed bits len codes.now ++ drop (at + len) out.old }
-{
-    let end = at + len;
-    regroup(codes, bits, &mut out[at..end], 8);
-}
-
 // Whether no bit of `payload` from bit `used` on is set.
 pub fn unused_bits_zero(payload: &[u8], used: usize) -> bool
     ensures { result ≡ rest_zero used payload.now }
 {
     let k = used / 8;
-    let mut i = payload.len();
-    while k + 1 < i {
-        i = i - 1;
-        if payload[i] != 0 {
-            return false;
-        }
-    }
-    at_or_zero(payload, k) / pow2(used % 8) == 0
+    let after = payload.get(k + 1..).unwrap_or(&[]);
+    after.iter().all(|&byte| byte == 0) && at_or_zero(payload, k) / pow2(used % 8) == 0
 }
 
 // Internal: the little-endian number in the two bytes from `at` on.
@@ -115,26 +96,6 @@ pub fn le32(s: &[u8], at: usize) -> u32
     ensures { result ≡ field 4 at s.now }
 {
     le16(s, at) + 65536 * le16(s, at + 2)
-}
-
-// Internal: the low sixteen bits of `x`, little-endian, in the two bytes from `at` on. The rest stays.
-pub fn put_le16(out: &mut [u8], at: usize, x: u32)
-    requires { at + 2 ≤ length out.old }
-    ensures { out.new ≡ take at out.old ++ stored 2 x ++ drop (at + 2) out.old }
-{
-    out[at] = (x % 256) as u8;
-    out[at + 1] = (x / 256 % 256) as u8;
-}
-
-// Internal: `x`, little-endian, in the four bytes from `at` on. The rest stays.
-pub fn put_le32(out: &mut [u8], at: usize, x: u32)
-    requires { at + 4 ≤ length out.old }
-    ensures { out.new ≡ take at out.old ++ stored 4 x ++ drop (at + 4) out.old }
-{
-    out[at] = (x % 256) as u8;
-    out[at + 1] = (x / 256 % 256) as u8;
-    out[at + 2] = (x / 256 / 256 % 256) as u8;
-    out[at + 3] = (x / 256 / 256 / 256 % 256) as u8;
 }
 
 // Internal: the little-endian number in the N bytes from `at` on.

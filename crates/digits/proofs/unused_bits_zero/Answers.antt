@@ -1,44 +1,50 @@
+-- `digits::unused_bits_zero` meets its contract: no bit is set in the bytes after that of the first unused bit, nor from that bit on in it.
+-- Assumes nothing.
 use mathlib.Core.Path.{◌≡◌, sym, ap, ap₂, ◌∙◌}
-use Prim.Native.Nat.{ℕ, ◌+◌, ◌-◌, ◌*◌, ◌/◌, ◌%◌, ◌^◌, ◌≤◌}
+use Prim.Native.Nat.{ℕ, ◌+◌, ◌*◌, ◌/◌, ◌%◌, ◌^◌, ◌<◌}
 use native.Mathlib.Omega.{arith}
 use borrow.Author.Rules.{rules}
+use borrow.Author.Tests.{tests}
 use lib.Dec.{eqb}
-use lib.ListN.{get_or}
+use lib.ListN.{get_or, drop, length}
 use lib.Pow.{shr-shr}
+use lib.Seq.{get_or-drop}
+use Rattle.std.specs.Prelude.{MatchBool, ◌≢◌}
+use Rattle.std.specs.List.{AllWithin, HoldsAt}
+use Rattle.std.proofs.lemmas.Grind.{common_steps}
+use Rattle.std.proofs.lemmas.Iterator.{cases_from_all, YieldsList-from_slice}
 use Rattle.digits.specs.Digits.{number}
-use Rattle.digits.proofs.Laws.{rest_end, rest_last, rest_less, rest_set}
+use Rattle.digits.proofs.Laws.{Small, rest_none, rest_last, rest_set}
 use Rattle.digits.proofs.unused_bits_zero.Goals as goal
+use Rattle.digits.proofs.unused_bits_zero.Goals.{After-all}
 
-pub loop-i-init : goal.loop-i-init
-loop-i-init c = (rest_end c.args.payload.now (λ i. (c.type_inv.payload i).fits), search rules)
+-- what the bytes after byte k are
+after : (c : After-all) → c.unwrap_or-after.result.now ≡ drop (c.args.used / 8 + 1) c.args.payload.now
+after c = grind (arith, common_steps)
 
-pub returns-then-payload-i-ne0 : goal.returns-then-payload-i-ne0
-returns-then-payload-i-ne0 c =
-    let i = c.loop-i.i in
-    let past : c.args.used ≤ 8 * (i - 1) = omega (arith, c.loop-i-test.true) in
-    sym (rest_set c.args.payload.now (λ n. (c.type_inv.payload n).fits) c.args.used (i - 1) past c.if-payload-i-ne0.true)
+zeros : (c : After-all) → let xs = drop (c.args.used / 8 + 1) c.args.payload.now in MatchBool c.all.result (AllWithin (λ x. x ≡ 0) xs 0 (length xs)) ((i : ℕ) × (i < length xs) × HoldsAt (λ x. x ≢ 0) xs i)
+zeros c =
+    cases_from_all _ _ _ (λ x. x ≡ 0) (λ x. x ≢ 0) c.all.ensures.ran
+    (YieldsList-from_slice (drop (c.args.used / 8 + 1) c.args.payload.now) (c.iter.ensures.rest ∙ after c)) (λ x q k. search (rules, tests)) (λ x q k. search (rules, tests))
 
-pub loop-i-preserved : goal.loop-i-preserved
-loop-i-preserved c =
-    let l = c.loop-i in
-    let x = number 8 c.args.payload.now in
-    let up : (l.i - 1) + 1 ≡ l.i = omega (arith, c.loop-i-test.true) in (
-      rest_last c.args.payload.now (λ n. (c.type_inv.payload n).fits) (l.i - 1)
-          (ap (λ (k : ℕ). x / 2 ^ (8 * k)) up ∙ l.invariant.0)
-          ∙ c.if-payload-i-ne0.false,
-      omega (arith, l.invariant.1),
-    )
-
-pub returns : goal.returns
-returns c =
-    let l = c.loop-i in
-    let x = number 8 c.args.payload.now in
+pub returns-then-all : goal.returns-then-all
+returns-then-all c =
+    let bytes = c.args.payload.now in
+    let small : Small 8 bytes = λ i. (c.type_inv.payload i).fits in
     let k = c.args.used / 8 in
     let r = c.args.used % 8 in
-    let none : x / 2 ^ (8 * (k + 1)) ≡ 0 = rest_less x (omega (arith, c.loop-i-test.false)) l.invariant.0 in
-    let last : x / 2 ^ (8 * k) ≡ get_or c.args.payload.now k 0 =
-    rest_last c.args.payload.now (λ n. (c.type_inv.payload n).fits) k none in
+    let none = rw c.if-all.true at (zeros (goal.at.returns-then-all c).After-all) in
+    let last : number 8 bytes / 2 ^ (8 * k) ≡ get_or bytes k 0 =
+    rest_last bytes small k (rest_none bytes small (k + 1) (λ i l. none i 0 (omega arith) l)) in
     let place : 8 * k + r ≡ c.args.used = omega arith in
     ap (λ (y : ℕ). eqb y 0)
     (ap₂ (λ (y z : ℕ). y / z) (c.at_or_zero.ensures.0 ∙ sym last) c.pow2.ensures.0
-    ∙ shr-shr x (8 * k) r ∙ ap (λ (i : ℕ). x / 2 ^ i) place)
+    ∙ shr-shr (number 8 bytes) (8 * k) r ∙ ap (λ (i : ℕ). number 8 bytes / 2 ^ i) place)
+
+pub returns-else-all : goal.returns-else-all
+returns-else-all c =
+    let bytes = c.args.payload.now in
+    let small : Small 8 bytes = λ i. (c.type_inv.payload i).fits in
+    let k = c.args.used / 8 + 1 in
+    let (i, within, set) = rw c.if-all.false at (zeros (goal.at.returns-else-all c).After-all) in
+    c.if-all.false ∙ sym (rest_set bytes small c.args.used (k + i) (omega arith) (λ e. set 0 (get_or-drop k bytes i 0 ∙ e)))
