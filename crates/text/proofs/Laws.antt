@@ -1,18 +1,18 @@
 -- Decimal numbers by their digits, and texts that are put one behind the other. Assumes nothing.
 use mathlib.Core.Path.{◌≡◌, refl, sym, ap, ◌∙◌}
-use mathlib.Core.Bool.{Bool, true, false}
-use mathlib.Core.List.{List, [], ◌++◌, append_assoc, append-nil}
-use Prim.Native.Nat.{ℕ, zero, suc, ◌+◌, ◌-◌, ◌/◌, ◌%◌, ◌^◌, ◌≤◌, ◌<◌}
-use native.Mathlib.Nat.{add-zero, add_assoc, pow-suc, one-le-pow, pow-le-pow_right, mod-lt, div-lt_iff_lt-mul, le-div_iff_mul-le}
+use mathlib.Core.List.{List, [], ◌∷◌, ◌++◌, append_assoc, append-nil}
+use Prim.Native.Nat.{ℕ, zero, suc, ◌+◌, ◌-◌, ◌/◌, ◌%◌, ◌^◌, ◌≤◌, ◌<◌, min}
+use native.Mathlib.Nat.{sub-zero, zero-sub, add-zero, add_assoc, pow-suc, one-le-pow, mod-lt, div-lt_iff_lt-mul, le-div_iff_mul-le}
 use native.Mathlib.Omega.{arith}
-use lib.Dec.{ltb}
 use lib.ListN.{length, take, drop, length-append, length-take, length-drop, take-append-drop}
-use lib.Seq.{take_at, drop-drop, drop-append-add, length-take-le}
-use borrow.Author.Tests.{lt-ltb, ltb-true, ltb-false}
+use lib.Seq.{take_at, drop-drop, drop-append-add, length-take-le, take-nil, take_all}
+use Rattle.std.proofs.lemmas.List.{take_min}
+use borrow.Author.Tests.{lt-ltb}
 use Rattle.digits.proofs.Laws.{part_put}
 use Rattle.io.specs.Digits.{last_digits, IsDigitCount}
-use Rattle.text.specs.Text.{letters, digits_of, decimal, text_of, Extended, written, Put}
-use Rattle.text.specs.declared.Line.{Line}
+use Rattle.text.specs.Text.{letters, digits_of, decimal, written, Put}
+use Rattle.text.specs.Printer.{Printed}
+use Rattle.text.specs.declared.Printer.{Printer}
 
 -- ---- decimal numbers
 
@@ -57,25 +57,21 @@ spelled (suc n) (suc (suc k)) f =
     same_digits (suc (suc k)) (suc n) (suc n) f.1 t (omega (arith, many (suc k)))
 
 -- a number of 64 bits has at most 20 digits
-pub few : (n k : ℕ) → n < 2 ^ 64 → IsDigitCount 10 1 n k → k ≤ 20
-few n k below f = go (ltb 20 k) refl
-  where
-    go : (b : Bool) → ltb 20 k ≡ b → k ≤ 20
-    go false e = ltb-false _ _ e
-    go true e =
-        let more : 20 < k = ltb-true _ _ e in
-        let least : 10 ^ (k - 1) ≤ n = f.2 (omega arith) in
-        let z : ⊥ = omega (arith, pow-le-pow_right {n = 10} (omega arith) {i = 20} {j = k - 1} (omega arith)) in
-        absurd z
+digits_few : (k j n : ℕ) → n < 10 ^ k → length (digits_of j n) ≤ k
+unfolding digits_of
+digits_few k zero n a = omega arith
+digits_few k (suc j) zero a = omega arith
+digits_few zero (suc j) (suc n) a = let z : ⊥ = omega arith in absurd z
+digits_few (suc k) (suc j) (suc n) a =
+    let below : suc n / 10 < 10 ^ k = (div-lt_iff_lt-mul {k = 10} (omega arith)).1 (rw pow-suc at a) in
+    simp length-append (omega (arith, digits_few k j (suc n / 10) below))
+
+pub decimal_few : (n : ℕ) → n < 2 ^ 64 → length (decimal n) ≤ 20
+unfolding decimal letters
+decimal_few zero h = omega arith
+decimal_few (suc n) h = digits_few 20 (suc n) (suc n) (omega arith)
 
 -- ---- texts one behind the other
-
-pub then_extended : {l m r : Line} {x y : List ℕ} → Extended l x m → Extended m y r → Extended l (x ++ y) r
-then_extended {l} {x = x} {y} p q =
-    record {
-      text = q.text ∙ rw p.text (append_assoc (text_of l) x y);
-      count = q.count ∙ rw p.count (simp length-append (omega arith));
-    }
 
 pub length-put : {out after text : List ℕ} {at next : ℕ} → Put out at text after next → next ≤ length out → length after ≡ length out
 unfolding written
@@ -110,12 +106,56 @@ module _ (out : List ℕ) (at : ℕ) (h : at ≤ length out) where
         output = q.output ∙ rw (p.output, p.place) (then_written x y);
       }
 
--- a piece of n letters that was copied to the part from `at` to `at + n` of a list
-module _ (at n : ℕ) (l piece : List ℕ) (size : length piece ≡ n) (h : at + n ≤ length l) where
-  pub copied : {part : List ℕ} → part ≡ piece → take at l ++ (part ++ drop (at + n - at) (drop at l)) ≡ written l at piece
-  unfolding written
-  copied all = part_put at n l all ∙ rw size refl
+-- ---- what does not fit is left out
 
-  pub front_copied : take (at + n) (written l at piece) ≡ take at l ++ piece
+cut_append : (n : ℕ) (x y : List ℕ) → take n (x ++ y) ≡ take n x ++ take (n - length x) y
+cut_append n [] y = rw (take-nil n, sub-zero n) refl
+cut_append zero (c ∷ x) y = rw zero-sub refl
+cut_append (suc n) (c ∷ x) y = ap (λ (l : List ℕ). c ∷ l) (cut_append n x y ∙ ap (λ (k : ℕ). take n x ++ take k y) (omega arith))
+
+-- the code's way to print a piece: the letters of it that fit are copied
+module _ (p : Printer) (piece : List ℕ) (size : ℕ) (fits : size ≡ min (length piece) (length p.out.now - p.at)) where
+  pub copied : {part : List ℕ} → part ≡ take size piece
+      → take p.at p.out.now ++ (part ++ drop (p.at + size - p.at) (drop p.at p.out.now)) ≡ written p.out.now p.at (take (length p.out.now - p.at) piece)
   unfolding written
-  front_copied = take_at (take at l ++ piece) _ (at + n) (front l at (omega arith) piece ∙ ap (λ (k : ℕ). at + k) size)
+  copied all =
+      let whole : length (take size piece) ≡ size = length-take-le size piece (omega arith) in
+      let least : size ≡ min (length p.out.now - p.at) (length piece) = omega arith in
+      let front : take size piece ≡ take (length p.out.now - p.at) piece = ap (λ (n : ℕ). take n piece) least ∙ take_min (length p.out.now - p.at) piece in
+      part_put p.at size p.out.now all ∙ rw (← front, whole) refl
+
+module _ {p q : Printer} {x : List ℕ} (a : Printed p x q) where
+  shown : List ℕ
+  shown = take (length p.out.now - p.at) x
+
+  place : q.at ≡ p.at + length shown
+  unfolding shown
+  place = simp length-take (omega (arith, a.place, p.within))
+
+  kept : length q.out.now ≡ length p.out.now
+  unfolding shown
+  kept =
+      let first : Put p.out.now p.at shown q.out.now q.at = record { place = place; output = a.output } in
+      length-put first (omega (arith, a.place))
+
+  pub then_printed : {r : Printer} {y : List ℕ} → Printed q y r → Printed p (x ++ y) r
+  unfolding shown
+  then_printed {r} {y} b =
+      let room = length p.out.now - p.at in
+      let first : Put p.out.now p.at shown q.out.now q.at = record { place = place; output = a.output } in
+      let rest = take (length q.out.now - q.at) y in
+      let second : Put q.out.now q.at rest r.out.now (q.at + length rest) = record { place = refl; output = b.output } in
+      let counts : take (length q.out.now - q.at) y ≡ take (room - length x) y = ap (λ (k : ℕ). take k y) (omega (arith, a.place, kept, p.within)) in
+      record {
+        same_reference = b.same_reference ∙ a.same_reference;
+        place = omega (arith, a.place, b.place, kept, length-append x y);
+        output = (then_put p.out.now p.at p.within first second).output ∙ ap (written p.out.now p.at) (ap (λ (l : List ℕ). shown ++ l) counts ∙ sym (cut_append room x y));
+      }
+
+  -- a text that fits is put whole
+  pub printed_whole : p.at + length x ≤ length p.out.now → Put p.out.now p.at x q.out.now q.at
+  printed_whole fits =
+      record {
+        place = omega (arith, a.place);
+        output = a.output ∙ ap (written p.out.now p.at) (take_all (length p.out.now - p.at) x (omega arith));
+      }

@@ -1,8 +1,7 @@
--- Printed text: decimal numbers, lines of fields, and what a line and a lent output hold. Assumes nothing.
+-- Printed text: decimal numbers, lines of fields, and what a lent output holds. Assumes nothing.
 use Rattle.std.specs.Prelude.{◌≡◌, ℕ, zero, suc, ◌+◌, ◌/◌, ◌%◌, List, [], ◌∷◌, ◌++◌, length, take, drop}
 use Prim.Native.Char.{code}
 use Prim.Native.String.{String, [] as empty, ◌∷◌ as ◌then◌}
-use Rattle.text.specs.declared.Line.{Line}
 
 -- the ASCII codes of a text
 unfoldable pub letters : String → List ℕ
@@ -29,15 +28,6 @@ spaced (x ∷ y ∷ ys) = x ++ (letters " " ++ spaced (y ∷ ys))
 -- a line ends in a newline
 unfoldable pub line : List (List ℕ) → List ℕ
 line fields = spaced fields ++ letters "\n"
-
--- the letters of a line so far
-abbrev pub text_of : Line → List ℕ
-text_of l = take l.count l.bytes
-
--- a line with a piece more
-pub record Extended (l : Line) (piece : List ℕ) (r : Line) : Type 0 where
-  pub text : text_of r ≡ text_of l ++ piece
-  pub count : r.count ≡ l.count + length piece
 
 -- an output with a text at a place: later places don't change
 unfoldable pub written : List ℕ → ℕ → List ℕ → List ℕ
