@@ -1,5 +1,5 @@
 -- The lines that the programs print. Assumes nothing.
-use Rattle.std.specs.Prelude.{ℕ, ◌/◌, ◌%◌, cond, List, [], ◌∷◌, map}
+use Rattle.std.specs.Prelude.{ℕ, ◌/◌, ◌%◌, cond, List, [], ◌∷◌, ◌++◌, map}
 use Rattle.format.specs.Layout.{anew, volume_byte, index_byte, count, fragment_at_place}
 use Rattle.format.specs.declared.Variant.{Variant}
 use Rattle.format.specs.declared.Variant.TheVariants.{H, L, LPlus}
@@ -9,6 +9,11 @@ use Rattle.text.specs.Text.{letters, decimal, line}
 -- a refusal: `refused`, the number, and any returned numbers
 unfoldable pub refusal_line : ℕ → List ℕ → List ℕ
 refusal_line number values = line (letters "refused" ∷ decimal number ∷ map decimal values)
+
+-- returned numbers as the code prints them: a space before each
+unfoldable pub spaced_values : List ℕ → List ℕ
+spaced_values [] = []
+spaced_values (v ∷ vs) = (letters " " ++ decimal v) ++ spaced_values vs
 
 -- ---- the inspector's report
 

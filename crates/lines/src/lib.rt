@@ -1,78 +1,94 @@
-// The lines that the programs print: a refusal's, and those of the inspector's report. Each function answers a line whose text is the one
-// of its definition in specs/.
+// The lines that the programs print: a refusal's, and those of the inspector's report. Each function prints the text of its definition
+// in specs/, which has at most 128 bytes.
 #![tactic(auto)]
 
-ghost use Rattle.std.specs.Prelude.{◌≡◌, [], ◌∷◌, ◌+◌, ◌*◌, ◌<◌, ◌≤◌, length, take};
-ghost use Rattle.format.specs.Layout.{frames, stream_length};
-ghost use Rattle.text.specs.Text.{text_of, Extended};
-ghost use Rattle.lines.specs.Lines.{refusal_line, variant_name, header_line, index_field, fragment_line};
+ghost use Rattle.std.specs.Prelude.{◌≡◌, ◌*◌, ◌<◌, ◌≤◌, length};
+ghost use Rattle.outcome.specs.Outcome.{listed};
+ghost use Rattle.format.specs.Layout.{frames};
+ghost use Rattle.text.specs.Printer.{Printed};
+ghost use Rattle.lines.specs.Lines.{refusal_line, spaced_values, variant_name, header_line, index_field, fragment_line};
 
-use format::{Header, Values, Variant};
-use text::Line;
+use format::{Coding, Header, Variant};
+use layout::Stream;
+use outcome::{Refusal, Values};
+use text::Printer;
 
-// The line of a refusal.
-pub fn refusal_line(number: u8, values: Values) -> Line
-    ensures { (text_of result ≡ refusal_line number (take values.count (values.first ∷ values.second ∷ []))) × (result.count ≤ 128) }
+// Internal: the numbers that a refusal returns, each after a space.
+fn values(page: &mut Printer, values: Values)
+    ensures prints { Printed page.old (spaced_values (listed values)) page.new }
+    ensures short { length (spaced_values (listed values)) ≤ 42 }
 {
-    let none = Line::empty().field(b"refused ", number as u64);
-    if values.count == 0 {
-        return none.word(b"\n");
+    match values {
+        Values::Zero => {}
+        Values::One(first) => page.field(b" ", first as u64),
+        Values::Two(first, second) => {
+            page.field(b" ", first as u64);
+            page.field(b" ", second as u64);
+        }
     }
-    let one = none.field(b" ", values.first as u64);
-    if values.count == 1 {
-        return one.word(b"\n");
-    }
-    one.field(b" ", values.second as u64).word(b"\n")
 }
 
-// Internal: a line with the variant's name more.
-fn name(line: Line, variant: Variant) -> Line
-    requires { line.count + 2 ≤ 128 }
-    ensures { Extended line (variant_name variant) result × (result.count ≤ line.count + 2) }
+// The line of a refusal.
+pub fn refusal_line<E: Refusal>(page: &mut Printer, refusal: E)
+    ensures prints { Printed page.old (refusal_line (E.number_of refusal) (E.values_of refusal)) page.new }
+    ensures short { length (refusal_line (E.number_of refusal) (E.values_of refusal)) ≤ 128 }
+{
+    page.field(b"refused ", refusal.number() as u64);
+    values(page, refusal.values());
+    page.word(b"\n");
+}
+
+#[tactic(auto, unfolding(crate::specs::Lines::variant_name, text::specs::Text::letters))]
+fn name(variant: Variant) -> &'static [u8]
+    ensures { result.now ≡ variant_name variant }
 {
     match variant {
-        Variant::H => line.word(b"H"),
-        Variant::L => line.word(b"L"),
-        Variant::LPlus => line.word(b"L+"),
+        Variant::H => b"H",
+        Variant::L => b"L",
+        Variant::LPlus => b"L+",
     }
 }
 
 // The header's line.
-pub fn header_line(h: Header) -> Line
-    ensures { (text_of result ≡ header_line h) × (result.count ≤ 128) }
+pub fn header_line(page: &mut Printer, h: Header)
+    ensures prints { Printed page.old (header_line h) page.new }
+    ensures short { length (header_line h) ≤ 128 }
 {
-    let variant = h.variant;
-    let version = Line::empty().field(b"version ", h.version as u64);
-    let named = name(version.word(b" variant "), variant);
-    let channels = named.field(b" channels ", h.channels as u64);
-    let rate = channels.field(b" rate ", h.rate as u64);
-    rate.field(b" samples ", h.samples as u64).word(b"\n")
+    page.field(b"version ", h.version as u64);
+    page.word(b" variant ");
+    page.word(name(h.variant));
+    page.field(b" channels ", h.channels as u64);
+    page.field(b" rate ", h.rate as u64);
+    page.field(b" samples ", h.samples as u64);
+    page.word(b"\n");
 }
 
-// Internal: a line with the index field of a fragment more.
-#[tactic(auto, using(crate::proofs::Lines::index_shown, crate::proofs::Lines::index_hidden), unfolding(text::specs::Text::letters))]
-fn index_field(line: Line, version: u8, fragment: &[u8]) -> Line
-    requires { (line.count + 20 ≤ 128) × (2 ≤ length fragment.now) }
-    ensures { Extended line (index_field version fragment.now) result × (result.count ≤ line.count + 20) }
+// Internal: the index field of a fragment.
+fn index_field(page: &mut Printer, coding: Coding, fragment: &[u8])
+    requires { 2 ≤ length fragment.now }
+    ensures prints { Printed page.old (index_field coding.version fragment.now) page.new }
+    ensures short { length (index_field coding.version fragment.now) ≤ 20 }
 {
-    if 3 <= version {
-        return line.number(fragment[1] as u64);
+    if coding.starts_anew() {
+        page.number(fragment[1] as u64);
+    } else {
+        page.word(b"-");
     }
-    line.word(b"-")
 }
 
 // Internal: the line of the fragment at place `p` of the file order.
-pub fn fragment_line(file: &[u8], h: Header, p: usize) -> Line
-    requires { (0 < h.channels) × (length file.now ≡ stream_length h) × (p < frames h * h.channels) }
-    ensures { (text_of result ≡ fragment_line h file.now p) × (result.count ≤ 128) }
+pub fn fragment_line(page: &mut Printer, stream: &Stream, p: usize)
+    requires { p < frames stream.now.header * stream.now.header.channels }
+    ensures prints { Printed page.old (fragment_line stream.now.header stream.now.file.now p) page.new }
+    ensures short { length (fragment_line stream.now.header stream.now.file.now p) ≤ 128 }
 {
-    let channels = h.channels as usize;
-    let f = p / channels;
-    let fragment = layout::fragment_at(file, h, p);
-    let place = Line::empty()
-        .number(f as u64)
-        .field(b" ", (p % channels) as u64);
-    let count = place.field(b" ", layout::count_at(h, f) as u64);
-    let volume = count.field(b" ", fragment[0] as u64);
-    index_field(volume.word(b" "), h.version, fragment).word(b"\n")
+    let channels = stream.header.channels as usize;
+    let fragment = stream.fragment_at(p);
+    page.number((p / channels) as u64);
+    page.field(b" ", (p % channels) as u64);
+    page.field(b" ", stream.samples_at(p) as u64);
+    page.field(b" ", fragment[0] as u64);
+    page.word(b" ");
+    index_field(page, stream.header.coding(), fragment);
+    page.word(b"\n");
 }

@@ -124,6 +124,9 @@ module _ (p : Printer) (piece : List ℕ) (size : ℕ) (fits : size ≡ min (len
       let front : take size piece ≡ take (length p.out.now - p.at) piece = ap (λ (n : ℕ). take n piece) least ∙ take_min (length p.out.now - p.at) piece in
       part_put p.at size p.out.now all ∙ rw (← front, whole) refl
 
+pub printed_none : (p : Printer) → Printed p [] p
+printed_none p = record { same_reference = refl; place = omega (arith, p.within); output = rw (take-nil (length p.out.now - p.at)) (put_none p.out.now p.at p.within).output }
+
 module _ {p q : Printer} {x : List ℕ} (a : Printed p x q) where
   shown : List ℕ
   shown = take (length p.out.now - p.at) x
