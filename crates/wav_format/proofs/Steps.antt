@@ -7,11 +7,13 @@ use Prim.Native.Nat.{ℕ, ◌+◌, ◌*◌, ◌≤◌, ◌<◌}
 use native.Mathlib.Omega.{arith}
 use borrow.Author.Tests.{ltb-false, eqb-true}
 use lib.Dec.{eqb}
+use Rattle.std.specs.Prelude.{Option, Some, None}
 use Rattle.outcome.specs.Outcome.{Outcome, result, branch}
 use Rattle.outcome.proofs.Flags.{either_elim, one_or_two_lem}
 use Rattle.outcome.proofs.Laws.{cleared, passed}
-use Rattle.wav_format.specs.Wave.{size_at, padded_end, format_at, passed_over, with_format, with_data, chunk_step, one_or_two, check_format}
+use Rattle.wav_format.specs.Wave.{size_at, padded_end, format_at, passed_over, with_format, with_data, chunk_step, found, one_or_two, check_format}
 use Rattle.wav_format.specs.declared.Chunks.{Chunks}
+use Rattle.wav_format.specs.declared.Part.{Part}
 
 -- a result comes by one of two ways
 pub either_way : {A : Type 0} {P : Type 0} (b : Bool) (one other : Outcome A) (a : A) → (one ≡ result a → P) → (other ≡ result a → P)
@@ -20,11 +22,22 @@ unfolding branch
 either_way true one other a f g e = f e
 either_way false one other a f g e = g e
 
+-- the samples, where they were found, lie before the RIFF end
+abbrev pub Inside : ℕ → Option Part → Type 0
+Inside end None = Unit {0}
+Inside end (Some p) = p.start + p.size ≤ end
+
+-- what was found is there
+pub was_found : {A : Type 0} (o : Option A) (n : ℕ) {a : A} → found o n ≡ result a → o ≡ Some a
+unfolding found
+was_found (Some b) n e = cc
+was_found None n e = cc
+
 -- c's next chunk gives d
 pub record Stepped (end : ℕ) (c d : Chunks) : Type 0 where
   pub forward : c.at + 8 ≤ d.at
   pub inside : d.at ≤ end
-  pub samples_inside : c.samples.start + c.samples.size ≤ end → d.samples.start + d.samples.size ≤ end
+  pub samples_inside : Inside end c.samples → Inside end d.samples
 
 stepped_to : {end : ℕ} {c : Chunks} (x d : Chunks) → Stepped end c x → result x ≡ result d → Stepped end c d
 stepped_to {end} {c} x d r e = let same : x ≡ d = cc in subst (λ (y : Chunks). Stepped end c y) same r

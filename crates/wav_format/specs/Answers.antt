@@ -1,14 +1,10 @@
 -- The paper's number and returned numbers for each case of a WAV answer. Assumes nothing.
 use Rattle.std.specs.Prelude.{◌≡◌, ℕ, List, [], ◌∷◌, ℤ, length}
-use Rattle.outcome.specs.Outcome.{Outcome, result, refused, on_result, output_after}
+use Rattle.std.specs.declared.result.Result.{Result}
+use Rattle.outcome.specs.Outcome.{Outcome, refused, outcome_of, on_result, output_after}
 use Rattle.wav_format.specs.Samples.{samples_call}
-use Rattle.wav_format.specs.declared.Wave.{Wave}
 use Rattle.wav_format.specs.declared.WaveError.{WaveError}
 use Rattle.wav_format.specs.declared.WaveError.TheVariants.{NotWave, RiffEnd, ChunkHeader, ChunkEnd, FormatChunk, DataChunk, NoFormat, Encoding, Channels, ZeroRate, ByteRate, Inconsistent, NoData, PartialFrame, WriterChannels, DataSize, RiffSize, WriterByteRate, OutputTooShort, StrictFormat, StrictOrder, StrictEnd}
-use Rattle.wav_format.specs.declared.WaveRead.{WaveRead}
-use Rattle.wav_format.specs.declared.WaveRead.TheVariants as R
-use Rattle.wav_format.specs.declared.WaveFilled.{WaveFilled}
-use Rattle.wav_format.specs.declared.WaveFilled.TheVariants as F
 
 unfoldable pub number_of : WaveError → ℕ
 number_of NotWave = 20
@@ -62,15 +58,11 @@ values_of StrictEnd = []
 abbrev pub refusal : {A : Type 0} → WaveError → Outcome A
 refusal e = refused (number_of e) (values_of e)
 
-unfoldable pub read_of : WaveRead → Outcome Wave
-read_of (R.Accepted w) = result w
-read_of (R.Refused e) = refusal e
-
-unfoldable pub filled_of : WaveFilled → Outcome ℕ
-filled_of (F.Filled n) = result n
-filled_of (F.Refused e) = refusal e
+-- what a WAV call answers, read as what it gives
+abbrev pub answered : {A : Type 0} → Result A WaveError → Outcome A
+answered r = outcome_of number_of values_of r
 
 -- the promise of reading the samples: answer and output are those of samples_call
-pub record AsSamples (bytes : List ℕ) (out : List ℤ) (answer : WaveFilled) (output : List ℤ) : Type 0 where
-  pub answered : filled_of answer ≡ on_result length (samples_call bytes (length out))
+pub record AsSamples (bytes : List ℕ) (out : List ℤ) (answer : Result ℕ WaveError) (output : List ℤ) : Type 0 where
+  pub answered : answered answer ≡ on_result length (samples_call bytes (length out))
   pub output_left : output ≡ output_after (samples_call bytes (length out)) out

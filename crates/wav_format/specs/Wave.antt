@@ -1,5 +1,5 @@
 -- Reading a WAV file, from 01 and Microsoft's RIFF/WAVE PCM format. Numbers of refusals are those of 01's table. Assumes nothing.
-use Rattle.std.specs.Prelude.{ℕ, zero, suc, ◌+◌, ◌-◌, ◌*◌, ◌%◌, Bool, true, false, ◌&&◌, ◌||◌, List, [], ltb, eqb, length, get_or, take, drop}
+use Rattle.std.specs.Prelude.{ℕ, zero, suc, ◌+◌, ◌-◌, ◌*◌, ◌%◌, Bool, ◌&&◌, ◌||◌, Option, Some, None, is_some, List, [], ltb, eqb, length, get_or, take, drop}
 use Rattle.outcome.specs.Outcome.{Outcome, result, refused, refuse_if, need, branch, ◌⟫◌, and_then}
 use Rattle.digits.specs.Digits.{field}
 use Rattle.wav_format.specs.declared.Part.{Part}
@@ -24,7 +24,6 @@ padded_end at size = at + 8 + size + size % 2
 unfoldable pub format_at : List ℕ → ℕ → ℕ → Format
 format_at s start size =
     record {
-      found = true;
       part = record { start = start; size = size };
       encoding = field 2 start s;
       channels = field 2 (start + 2) s;
@@ -36,14 +35,14 @@ format_at s start size =
 
 -- the chunks after one that is neither fmt nor data, after fmt, and after data
 abbrev pub passed_over : ℕ → Chunks → Chunks
-passed_over size c = record { at = padded_end c.at size; format = c.format; found = c.found; samples = c.samples }
+passed_over size c = record { at = padded_end c.at size; format = c.format; samples = c.samples }
 
 abbrev pub with_format : Format → ℕ → Chunks → Chunks
-with_format f size c = record { at = padded_end c.at size; format = f; found = c.found; samples = c.samples }
+with_format f size c = record { at = padded_end c.at size; format = Some f; samples = c.samples }
 
 abbrev pub with_data : ℕ → Chunks → Chunks
 with_data size c =
-    record { at = padded_end c.at size; format = c.format; found = true; samples = record { start = c.at + 8; size = size } }
+    record { at = padded_end c.at size; format = c.format; samples = Some (record { start = c.at + 8; size = size }) }
 
 -- the chunk at c.at, of a file whose RIFF end is `end`: 22, 23, then 24 or 25
 unfoldable pub chunk_step : List ℕ → ℕ → Chunks → Outcome Chunks
@@ -52,24 +51,17 @@ chunk_step s end c =
     refuse_if (ltb (end - c.at) 8) 22 []
     ⟫ refuse_if (ltb end (padded_end c.at size)) 23 []
     ⟫ branch (letters_at s c.at 102 109 116 32)
-    (refuse_if c.format.found 24 []
+    (refuse_if (is_some c.format) 24 []
     ⟫ refuse_if (ltb size 16) 24 []
     ⟫ result (with_format (format_at s (c.at + 8) size) size c))
     (branch (letters_at s c.at 100 97 116 97)
-    (refuse_if c.found 25 []
+    (refuse_if (is_some c.samples) 25 []
     ⟫ result (with_data size c))
     (result (passed_over size c)))
 
 -- chunks start at 12, with nothing found
-abbrev pub no_part : Part
-no_part = record { start = 0; size = 0 }
-
-abbrev pub no_format : Format
-no_format =
-    record { found = false; part = no_part; encoding = 0; channels = 0; rate = 0; byte_rate = 0; align = 0; bits = 0 }
-
 abbrev pub first_chunk : Chunks
-first_chunk = record { at = 12; format = no_format; found = false; samples = no_part }
+first_chunk = record { at = 12; format = None; samples = None }
 
 -- the walk from c.at to the end, over at most n chunks
 unfoldable pub walk_for : ℕ → List ℕ → ℕ → Chunks → Outcome Chunks
@@ -105,22 +97,28 @@ check_format encoding channels rate byteRate align bits =
     ⟫ need (consistent channels rate byteRate align) 31 []
     ⟫ result (frame_bytes channels)
 
-abbrev pub wave_of : ℕ → Chunks → Wave
-wave_of end c =
-    record { channels = c.format.channels; rate = c.format.rate; samples = c.samples; format = c.format.part; end = end }
+-- what was found, and the refusal where nothing was
+unfoldable pub found : {A : Type 0} → Option A → ℕ → Outcome A
+found (Some a) n = result a
+found None n = refused n []
 
-unfoldable pub check_data : ℕ → Chunks → ℕ → Outcome Wave
-check_data end c frame =
-    need c.found 32 []
-    ⟫ need (eqb (c.samples.size % frame) 0) 33 []
-    ⟫ result (wave_of end c)
+abbrev pub wave_of : ℕ → Format → Part → Wave
+wave_of end f samples =
+    record { channels = f.channels; rate = f.rate; samples = samples; format = f.part; end = end }
+
+unfoldable pub check_data : ℕ → Format → Option Part → ℕ → Outcome Wave
+check_data end f part frame =
+    and_then (found part 32)
+    (λ samples.
+    need (eqb (samples.size % frame) 0) 33 []
+    ⟫ result (wave_of end f samples))
 
 unfoldable pub check_chunks : ℕ → Chunks → Outcome Wave
 check_chunks end c =
-    need c.format.found 26 []
-    ⟫ and_then
-    (check_format c.format.encoding c.format.channels c.format.rate c.format.byte_rate c.format.align c.format.bits)
-    (check_data end c)
+    and_then (found c.format 26)
+    (λ f.
+    and_then (check_format f.encoding f.channels f.rate f.byte_rate f.align f.bits)
+    (check_data end f c.samples))
 
 -- ---- plain reading
 

@@ -1,10 +1,12 @@
-// The types of WAV files: refusals, chunks, what a file says, and what the calls answer. This room is to WAV what `format` is to SQV4: the
-// rules of reading stand as definitions in specs/, and what is proved of them in proofs/.
+// The types of WAV files: refusals, chunks, and what a file says. This room is to WAV what `format` is to SQV4: the rules of reading stand
+// as definitions in specs/, and what is proved of them in proofs/.
 #![tactic(auto)]
 
 ghost use Rattle.std.specs.Prelude.{◌≡◌};
 ghost use Rattle.wav_format.specs.Wave.{one_or_two};
-ghost use Rattle.wav_format.specs.Answers.{number_of};
+ghost use Rattle.wav_format.specs.Answers.{number_of, values_of};
+
+use outcome::{Refusal, Values};
 
 // Why a WAV call refuses. specs/Answers.antt gives each case its number and returned numbers.
 #[derive(Clone, Copy)]
@@ -33,12 +35,13 @@ pub enum WaveError {
     StrictEnd,
 }
 
-impl WaveError {
-    // The number in 01's table.
+impl Refusal for WaveError {
+    ghost number_of = { number_of };
+
+    ghost values_of = { values_of };
+
     #[tactic(auto, unfolding(crate::specs::Answers::number_of))]
-    pub fn number(self) -> u8
-        ensures { result ≡ number_of self }
-    {
+    fn number(self) -> u8 {
         match self {
             WaveError::NotWave => 20,
             WaveError::RiffEnd => 21,
@@ -64,6 +67,15 @@ impl WaveError {
             WaveError::StrictEnd => 42,
         }
     }
+
+    // Only 13 returns a number.
+    #[tactic(auto, unfolding(crate::specs::Answers::values_of))]
+    fn values(self) -> Values {
+        match self {
+            WaveError::OutputTooShort(needed) => Values::One(needed),
+            _ => Values::Zero,
+        }
+    }
 }
 
 // A part of a file: the contents of a chunk.
@@ -73,10 +85,9 @@ pub struct Part {
     pub size: usize,
 }
 
-// The fmt chunk, where one was found.
+// The fmt chunk.
 #[derive(Clone, Copy)]
 pub struct Format {
-    pub found: bool,
     pub part: Part,
     pub encoding: u16,
     pub channels: u16,
@@ -86,13 +97,12 @@ pub struct Format {
     pub bits: u16,
 }
 
-// What the chunks up to byte `at` hold: the fmt chunk, and the data chunk's contents, the samples, where `found`.
+// What the chunks up to byte `at` hold: the fmt chunk, and the data chunk's contents, the samples.
 #[derive(Clone, Copy)]
 pub struct Chunks {
     pub at: usize,
-    pub format: Format,
-    pub found: bool,
-    pub samples: Part,
+    pub format: Option<Format>,
+    pub samples: Option<Part>,
 }
 
 // What a WAV file says, and where its samples lie. `format` and `end`, the RIFF end, are for strict reading.
@@ -105,25 +115,10 @@ pub struct Wave {
     pub end: usize,
 }
 
-#[derive(Clone, Copy)]
-pub enum WaveRead {
-    Accepted(Wave),
-    Refused(WaveError),
-}
-
-// What reading the samples answers, and what the writer answers: how many samples, or bytes, were written.
-#[derive(Clone, Copy)]
-pub enum WaveFilled {
-    Filled(usize),
-    Refused(WaveError),
-}
-
 // Whether a channel count is 1 or 2.
+#[tactic(auto, unfolding(crate::specs::Wave::one_or_two))]
 pub fn one_or_two(n: u16) -> bool
     ensures { result ≡ one_or_two n }
 {
-    if n == 1 {
-        return true;
-    }
-    n == 2
+    n == 1 || n == 2
 }
