@@ -1,25 +1,47 @@
 -- `wav_checks::check_chunks` meets its contract: the fmt chunk's checks, and then the data chunk's. Assumes nothing.
-use mathlib.Core.Path.{sym}
-use borrow.Author.Tests.{not-false}
-use Rattle.outcome.proofs.Laws.{checks, pass, then_result, then_refused}
-use Rattle.wav_format.specs.Answers.{number_of, values_of, read_of}
-use Rattle.wav_checks.specs.Frames.{frame_of}
-use Rattle.wav_format.specs.Wave.{check_chunks}
+use mathlib.Core.Path.{refl, sym}
+use Rattle.std.proofs.lemmas.Result.{err_from_is_err_and}
+use Rattle.outcome.proofs.Laws.{checks, then_result, then_refused}
+use Rattle.wav_format.specs.Answers.{number_of, values_of}
+use Rattle.wav_format.specs.Wave.{check_data, check_chunks}
+use Rattle.wav_format.specs.declared.WaveError.TheVariants.{NoFormat, NoData}
 use Rattle.wav_format.proofs.Steps.{frame_some}
+use Rattle.wav_checks.proofs.Found.{found_read}
 use Rattle.wav_checks.proofs.check_chunks.Goals as goal
 
-pub returns-then-not-f : goal.returns-then-not-f
-unfolding check_chunks number_of values_of read_of
-returns-then-not-f c = search checks depth 12
+pub returns-in_err-f : goal.returns-in_err-f
+unfolding check_chunks number_of values_of
+returns-in_err-f c = let p = err_from_is_err_and c.from_residual.result c.from_residual.ensures.1 in
+    rw (p.1, p.2) (then_refused _ _ _ _ (found_read _ NoFormat _ refl c.in_err-f.ensures.value))
 
-pub check_data-requires : goal.check_data-requires
-unfolding frame_of
-check_data-requires c = frame_some _ _ _ _ _ _ (sym (rw c.in-Frame.is at c.check_format.ensures))
+pub returns-in_err-frame : goal.returns-in_err-frame
+unfolding check_chunks number_of values_of
+returns-in_err-frame c = let p = err_from_is_err_and c.from_residual-in_err-frame.result c.from_residual-in_err-frame.ensures.1 in
+    rw (p.1, p.2)
+    (then_result _ _ _ _ (found_read _ NoFormat _ refl c.in_ok-f.ensures.value)
+    (then_refused _ _ _ _ c.in_err-frame.ensures))
 
-pub returns-in-Frame : goal.returns-in-Frame
-unfolding check_chunks frame_of
-returns-in-Frame c = pass _ _ _ _ _ (not-false _ c.if-not-f.false) (then_result _ _ _ _ (rw c.in-Frame.is at c.check_format.ensures) c.check_data.ensures)
+pub returns-in_err-samples : goal.returns-in_err-samples
+unfolding check_chunks check_data number_of values_of
+returns-in_err-samples c = let p = err_from_is_err_and c.from_residual-in_err-samples.result c.from_residual-in_err-samples.ensures.1 in
+    rw (p.1, p.2)
+    (then_result _ _ _ _ (found_read _ NoFormat _ refl c.in_ok-f.ensures.value)
+    (then_result _ _ _ _ c.in_ok-frame.ensures
+    (then_refused _ _ _ _ (found_read _ NoData _ refl c.in_err-samples.ensures.value))))
 
-pub returns-in-Bad : goal.returns-in-Bad
-unfolding check_chunks frame_of read_of
-returns-in-Bad c = pass _ _ _ _ _ (not-false _ c.if-not-f.false) (then_refused _ _ _ _ (rw c.in-Bad.is at c.check_format.ensures))
+pub nonzero_rem-samples : goal.nonzero_rem-samples
+nonzero_rem-samples c = frame_some _ _ _ _ _ _ (sym c.in_ok-frame.ensures)
+
+pub returns-then-samples-frame-ne0 : goal.returns-then-samples-frame-ne0
+unfolding check_chunks check_data number_of values_of
+returns-then-samples-frame-ne0 c =
+    then_result _ _ _ _ (found_read _ NoFormat _ refl c.in_ok-f.ensures.value)
+    (then_result _ _ _ _ c.in_ok-frame.ensures
+    (then_result _ _ _ _ (found_read _ NoData _ refl c.in_ok-samples.ensures.value) (search checks depth 12)))
+
+pub returns : goal.returns
+unfolding check_chunks check_data number_of values_of
+returns c =
+    then_result _ _ _ _ (found_read _ NoFormat _ refl c.in_ok-f.ensures.value)
+    (then_result _ _ _ _ c.in_ok-frame.ensures
+    (then_result _ _ _ _ (found_read _ NoData _ refl c.in_ok-samples.ensures.value) (search checks depth 12)))
