@@ -8,7 +8,7 @@ ghost use Rattle.wav_format.specs.Answers.{answered};
 use wav_format::{Chunks, Format, Part, WaveError};
 
 // Internal: whether the four bytes from `at` on are these letters.
-#[tactic(auto, using(crate::proofs::Letters::letters_equal))]
+#[tactic(auto, using(lists::proofs::Letters::letters_equal), unfolding(wav_format::specs::Wave::letters_at))]
 pub fn letters_at(s: &[u8], at: usize, letters: &[u8; 4]) -> bool
     requires { at + 4 ≤ length s.now }
     ensures { result ≡ letters_at s.now at (slice_index letters.now 0) (slice_index letters.now 1)
@@ -25,12 +25,12 @@ fn format_at(s: &[u8], start: usize, size: usize) -> Format
 {
     Format {
         part: Part { start, size },
-        encoding: digits::le16(s, start) as u16,
-        channels: digits::le16(s, start + 2) as u16,
-        rate: digits::le32(s, start + 4),
-        byte_rate: digits::le32(s, start + 8),
-        align: digits::le16(s, start + 12) as u16,
-        bits: digits::le16(s, start + 14) as u16,
+        encoding: digits::le::<2>(s, start) as u16,
+        channels: digits::le::<2>(s, start + 2) as u16,
+        rate: digits::le::<4>(s, start + 4) as u32,
+        byte_rate: digits::le::<4>(s, start + 8) as u32,
+        align: digits::le::<2>(s, start + 12) as u16,
+        bits: digits::le::<2>(s, start + 14) as u16,
     }
 }
 
@@ -43,7 +43,7 @@ fn chunk(file: &[u8], end: usize, c: Chunks) -> Result<Chunks, WaveError>
     if end - c.at < 8 {
         return Err(WaveError::ChunkHeader);
     }
-    let size = digits::le32(file, c.at + 4) as usize;
+    let size = digits::le::<4>(file, c.at + 4) as usize;
     let start = c.at + 8;
     let at = start + size + size % 2;
     if end < at {
