@@ -8,6 +8,7 @@ use borrow.Author.Tests.{lt-ltb}
 use lib.IntN.{ℤ}
 use lib.ListN.{length, get_or, set, take, drop, take-append-drop}
 use lib.Seq.{drop-drop, drop-set-lt}
+use Rattle.std.specs.declared.result.Result.TheVariants.{Ok, Err}
 use Rattle.outcome.specs.Outcome.{refused, on_result, output_after}
 use Rattle.outcome.proofs.Laws.{met, on_result_lem, output_result}
 use Rattle.lists.specs.Lists.{tabulate}
@@ -16,10 +17,9 @@ use Rattle.digits.specs.Digits.{number, field}
 use Rattle.digits.proofs.Laws.{number-part}
 use Rattle.signed.specs.Signed.{of_twos}
 use Rattle.wav_format.specs.Samples.{samples_of, samples_call}
-use Rattle.wav_format.specs.Answers.{number_of, values_of, filled_of, AsSamples}
+use Rattle.wav_format.specs.Answers.{number_of, values_of, AsSamples}
 use Rattle.wav_format.proofs.Claims.{load_accepts}
 use Rattle.wav_format.specs.declared.WaveError.TheVariants as E
-use Rattle.wav_format.specs.declared.WaveFilled.TheVariants as F
 
 -- the two bytes of a field
 pub two_bytes_at : (s : List ℕ) (at : ℕ) → at + 2 ≤ length s → get_or s at 0 + 256 * get_or s (at + 1) 0 ≡ field 2 at s
@@ -55,14 +55,14 @@ loaded_next s out₀ out i z h e l = record { front = fill_next (sample_at s) ou
 
 module _ (s : List ℕ) (out₀ : List ℤ) where
   -- the two ways in which the call returns
-  pub too_short : length out₀ < length s / 2 → AsSamples s out₀ (F.Refused (E.OutputTooShort (length s / 2))) out₀
-  unfolding samples_call filled_of number_of values_of on_result output_after
+  pub too_short : length out₀ < length s / 2 → AsSamples s out₀ (Err (E.OutputTooShort (length s / 2))) out₀
+  unfolding samples_call number_of values_of on_result output_after
   too_short h =
       let call : refused 13 (length s / 2 ∷ []) ≡ samples_call s (length out₀) = met _ _ _ _ (lt-ltb _ _ h) in
       record { answered = rw (← call); output_left = rw (← call) }
 
-  pub all_loaded : length s / 2 ≤ length out₀ → (out : List ℤ) → Loaded s out₀ out (length s / 2) → AsSamples s out₀ (F.Filled (length s / 2)) out
-  unfolding samples_of filled_of
+  pub all_loaded : length s / 2 ≤ length out₀ → (out : List ℤ) → Loaded s out₀ out (length s / 2) → AsSamples s out₀ (Ok (length s / 2)) out
+  unfolding samples_of
   all_loaded h out l =
       let call = load_accepts s (length out₀) h in
       record {

@@ -3,22 +3,18 @@
 
 ghost use Rattle.wav_format.specs.Answers.{AsSamples};
 
-use wav_format::{WaveError, WaveFilled};
+use wav_format::WaveError;
 
 // The samples of sample bytes, written to the front of `out`, and how many there are. A refusal leaves `out` as it was.
-pub fn load_samples(bytes: &[u8], out: &mut [i16]) -> WaveFilled
+pub fn load_samples(bytes: &[u8], out: &mut [i16]) -> Result<usize, WaveError>
     ensures { AsSamples bytes.now out.old result out.new }
 {
     let n = bytes.len() / 2;
     if out.len() < n {
-        return WaveFilled::Refused(WaveError::OutputTooShort(n));
+        return Err(WaveError::OutputTooShort(n));
     }
-    let mut i = 0;
-    while i < n {
-        let low = bytes[2 * i];
-        let high = bytes[2 * i + 1];
-        out[i] = signed::sample_of(low, high);
-        i += 1;
+    for i in 0..n {
+        out[i] = signed::sample_of(bytes[2 * i], bytes[2 * i + 1]);
     }
-    WaveFilled::Filled(n)
+    Ok(n)
 }

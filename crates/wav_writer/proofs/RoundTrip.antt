@@ -1,6 +1,6 @@
 -- A written file is read back, plainly and strictly, and its samples are those that were written. Assumes nothing.
 use mathlib.Core.Path.{◌≡◌, refl, sym, ◌∙◌, ap}
-use mathlib.Core.Bool.{true, false}
+use mathlib.Core.Bool.{true}
 use mathlib.Core.List.{List}
 use Prim.Native.Nat.{ℕ, suc, ◌+◌, ◌*◌, ◌-◌, ◌/◌, ◌%◌, ◌≤◌, ◌<◌}
 use native.Mathlib.Nat.{mod-eq_of_lt, mul-le-mul_left, le_of_eq, le_refl}
@@ -11,6 +11,7 @@ use lib.IntN.{ℤ, pos}
 use lib.Signed.{mag}
 use lib.ListN.{length, get_or, take, drop}
 use lib.Seq.{drop_at, take_all}
+use Rattle.std.specs.Prelude.{Some, None}
 use Rattle.outcome.specs.Outcome.{result}
 use Rattle.outcome.proofs.Flags.{both_true, either_elim}
 use Rattle.outcome.proofs.Laws.{clear, pass, first_way, second_way, cleared, passed, then_result}
@@ -20,7 +21,7 @@ use Rattle.digits.specs.Digits.{stored, number, field}
 use Rattle.digits.proofs.Laws.{number_digits, length_digits}
 use Rattle.signed.specs.Signed.{to_twos, of_twos}
 use Rattle.signed.proofs.Twos.{of_to, to_lt}
-use Rattle.wav_format.specs.Wave.{frame_bytes, one_or_two, format_at, first_chunk, no_part, chunk_step, walk_for, walk, pcm16, consistent, check_format, check_data, check_chunks, read_wave, read_strict, part_of}
+use Rattle.wav_format.specs.Wave.{frame_bytes, one_or_two, format_at, first_chunk, chunk_step, walk_for, walk, pcm16, consistent, check_format, found, check_data, check_chunks, read_wave, read_strict, part_of}
 use Rattle.wav_format.specs.Samples.{samples_of}
 use Rattle.wav_format.specs.declared.Format.{Format}
 use Rattle.wav_format.specs.declared.Chunks.{Chunks}
@@ -47,7 +48,6 @@ module _ (channels rate n : ℕ) where
   abbrev format : Format
   format =
       record {
-        found = true;
         part = record { start = 20; size = 16 };
         encoding = 1;
         channels = channels;
@@ -59,10 +59,10 @@ module _ (channels rate n : ℕ) where
 
   -- the chunks after fmt, and after data
   abbrev one : Chunks
-  one = record { at = 36; format = format; found = false; samples = no_part }
+  one = record { at = 36; format = Some format; samples = None }
 
   abbrev two : Chunks
-  two = record { at = 44 + size; format = format; found = true; samples = record { start = 44; size = size } }
+  two = record { at = 44 + size; format = Some format; samples = Some (record { start = 44; size = size }) }
 
   module _ (s : List ℕ) (f : Fields s channels rate (2 * n)) where
     format_is : format_at s 20 16 ≡ format
@@ -124,11 +124,12 @@ module _ (channels rate n : ℕ) where
           (pass _ _ _ _ _ same_rates refl)))))
 
       chunks_checked : check_chunks (44 + size) two ≡ result (wave_read channels rate size)
-      unfolding check_chunks check_data
+      unfolding check_chunks check_data found
       chunks_checked =
-          sym (pass _ _ _ _ _ refl
+          sym (then_result _ format _ _ refl
           (then_result _ (frame_bytes channels) _ _ (sym format_checked)
-          (pass _ _ _ _ _ refl (pass _ _ _ _ _ (eq-eqb _ _ even) refl))))
+          (then_result _ (record { start = 44; size = size }) _ _ refl
+          (pass _ _ _ _ _ (eq-eqb _ _ even) refl))))
 
       pub wave_read_lem : length s ≡ 44 + 2 * n → read_wave s ≡ result (wave_read channels rate (2 * n))
       unfolding read_wave

@@ -5,11 +5,11 @@ use Prim.Native.Nat.{ℕ, ◌+◌, ◌*◌, ◌≤◌}
 use native.Mathlib.Omega.{arith}
 use native.Mathlib.Numerals.{add-one}
 use lib.IntN.{ℤ, pos}
-use lib.ListN.{length, get_or, set, take, drop, length-append, length-drop}
-use lib.Seq.{take_at, drop_at, drop-drop, sets-eq}
+use lib.ListN.{length, get_or, take, drop, length-append, length-drop}
+use lib.Seq.{take_at, drop_at, drop-drop}
 use Rattle.lists.specs.Lists.{joined}
 use Rattle.lists.proofs.ByIndex.{length-joined}
-use Rattle.digits.specs.Digits.{digits, stored}
+use Rattle.digits.specs.Digits.{stored}
 use Rattle.digits.proofs.Laws.{length_digits}
 use Rattle.signed.specs.Signed.{to_twos}
 use Rattle.wav_writer.specs.Writer.{sample_bytes}
@@ -41,12 +41,6 @@ module _ (samples : List ℤ) where
     pub length_writing : (i : ℕ) {out : List ℕ} → Writing i out → 2 * i ≤ length o → length out ≡ length o
     length_writing i w l = ap length w.out_is ∙ simp (length-append, length-drop) (omega (arith, length_first i))
 
-    -- two stores put a sample's bytes in
-    stores : (i : ℕ) (out : List ℕ) {b : List ℕ} → 2 * i + 2 ≤ length out → b ≡ bytes_of i
-        → set (set out (2 * i) (get_or b 0 0)) (2 * i + 1) (get_or b 1 0) ≡ take (2 * i) out ++ bytes_of i ++ drop (2 * i + 2) out
-    unfolding digits
-    stores i out l e = rw (e, add-one) (sets-eq (bytes_of i) out (2 * i) l)
-
     -- one sample more
     next : (i : ℕ) {out : List ℕ} → Writing i out → take (2 * i) out ++ bytes_of i ++ drop (2 * i + 2) out ≡ first (i + 1) ++ drop (2 * (i + 1)) o
     unfolding joined
@@ -58,9 +52,9 @@ module _ (samples : List ℤ) where
         let past : 2 * (i + 1) ≡ 2 * i + 2 = omega arith in
         rw (low, high, past, add-one)
 
-    pub writing_more : (i : ℕ) {out b : List ℕ} → Writing i out → 2 * i + 2 ≤ length o → b ≡ stored 2 (to_twos (get_or samples i (pos 0)))
-        → Writing (i + 1) (set (set out (2 * i) (get_or b 0 0)) (2 * i + 1) (get_or b 1 0))
-    writing_more i {out} w l e = record { out_is = stores i out (rw (length_writing i w (omega arith)) l) e ∙ next i w }
+    pub writing_more : (i : ℕ) {out out' : List ℕ} → Writing i out → out' ≡ take (2 * i) out ++ stored 2 (to_twos (get_or samples i (pos 0))) ++ drop (2 * i + 2) out
+        → Writing (i + 1) out'
+    writing_more i w e = record { out_is = e ∙ next i w }
 
     pub writing_all : {i : ℕ} {out : List ℕ} → Writing i out → i ≡ length samples → out ≡ sample_bytes samples ++ drop (2 * length samples) o
     unfolding sample_bytes

@@ -8,14 +8,14 @@ use native.Mathlib.Nat.{mul-le-mul_left}
 use lib.IntN.{ℤ}
 use lib.ListN.{length, take, drop, length-append}
 use lib.Seq.{take_at, drop_at, drop-drop, take-length}
+use Rattle.std.specs.declared.result.Result.TheVariants.{Ok, Err}
 use Rattle.outcome.specs.Outcome.{result, on_result, output_after}
 use Rattle.outcome.proofs.Laws.{on_result_lem, output_result}
 use Rattle.digits.specs.Digits.{digits}
 use Rattle.digits.proofs.Laws.{tail_all, tail_put}
 use Rattle.wav_format.specs.Wave.{one_or_two}
-use Rattle.wav_format.specs.Answers.{refusal, filled_of}
+use Rattle.wav_format.specs.Answers.{refusal}
 use Rattle.wav_format.specs.declared.WaveError.{WaveError}
-use Rattle.wav_format.specs.declared.WaveFilled.TheVariants as F
 use Rattle.wav_format.proofs.Steps.{one_or_two_is}
 use Rattle.wav_writer.specs.Writer.{wave_header, sample_bytes, wave_bytes, write_call, AsWritten}
 use Rattle.wav_writer.proofs.SampleLoop.{length_samples}
@@ -33,8 +33,8 @@ unfolding wave_bytes
 length-wave channels rate samples = rw (length-append, length-header, length_samples)
 
 module _ (channels rate : ℕ) (samples : List ℤ) (out : List ℕ) where
-  pub as_refused : (e : WaveError) → refusal e ≡ write_call channels rate samples (length out) → AsWritten channels rate samples out (F.Refused e) out
-  unfolding filled_of on_result output_after
+  pub as_refused : (e : WaveError) → refusal e ≡ write_call channels rate samples (length out) → AsWritten channels rate samples out (Err e) out
+  unfolding on_result output_after
   as_refused e q = record { answered = rw (← q); output_left = rw (← q) }
 
   abbrev size : ℕ
@@ -44,8 +44,8 @@ module _ (channels rate : ℕ) (samples : List ℤ) (out : List ℕ) where
   pub as_written : (header headed tail : List ℕ) → result (wave_bytes channels rate samples) ≡ write_call channels rate samples (length out)
       → header ≡ wave_header channels rate (2 * length samples) → headed ≡ take (length header) header ++ drop (length header) out
       → tail ≡ sample_bytes samples ++ drop (2 * length samples) (take (length headed - 44) (drop 44 headed))
-      → AsWritten channels rate samples out (F.Filled (44 + 2 * length samples)) (take 44 headed ++ (tail ++ drop (length headed - 44) (drop 44 headed)))
-  unfolding filled_of wave_bytes
+      → AsWritten channels rate samples out (Ok (44 + 2 * length samples)) (take 44 headed ++ (tail ++ drop (length headed - 44) (drop 44 headed)))
+  unfolding wave_bytes
   as_written header headed tail q eh ed et =
       let all = wave_bytes channels rate samples in
       let long : length header ≡ 44 = ap length eh ∙ length-header channels rate size in

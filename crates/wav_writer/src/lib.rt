@@ -5,61 +5,25 @@ ghost use Rattle.std.specs.Prelude.{◌≡◌, ◌++◌, ◌+◌, ◌*◌, ◌�
 ghost use Rattle.wav_format.specs.Wave.{frame_bytes};
 ghost use Rattle.wav_writer.specs.Writer.{wave_header, sample_bytes, AsWritten};
 
-use wav_format::{WaveError, WaveFilled};
+use wav_format::WaveError;
 
-// Internal: the 44 bytes before `size` bytes of samples.
+// Internal: the 44 bytes before `size` bytes of samples: those that every file has, and the fields put into them.
+#[tactic(auto, unfolding(crate::specs::Writer::wave_header, digits::specs::Digits::digits))]
 fn wave_header(channels: u8, rate: u32, byte_rate: u32, size: u32) -> [u8; 44]
     requires { (channels ≤ 2) × (size + 36 ≤ 4294967295) × (byte_rate ≡ rate * frame_bytes channels) }
     ensures { result ≡ wave_header channels rate size }
 {
     let riff = size + 36;
     let align = channels * 2;
-    [
-        b'R',
-        b'I',
-        b'F',
-        b'F',
-        (riff % 256) as u8,
-        (riff / 256 % 256) as u8,
-        (riff / 256 / 256 % 256) as u8,
-        (riff / 256 / 256 / 256 % 256) as u8,
-        b'W',
-        b'A',
-        b'V',
-        b'E',
-        b'f',
-        b'm',
-        b't',
-        b' ',
-        16,
-        0,
-        0,
-        0,
-        1,
-        0,
-        channels,
-        0,
-        (rate % 256) as u8,
-        (rate / 256 % 256) as u8,
-        (rate / 256 / 256 % 256) as u8,
-        (rate / 256 / 256 / 256 % 256) as u8,
-        (byte_rate % 256) as u8,
-        (byte_rate / 256 % 256) as u8,
-        (byte_rate / 256 / 256 % 256) as u8,
-        (byte_rate / 256 / 256 / 256 % 256) as u8,
-        align,
-        0,
-        16,
-        0,
-        b'd',
-        b'a',
-        b't',
-        b'a',
-        (size % 256) as u8,
-        (size / 256 % 256) as u8,
-        (size / 256 / 256 % 256) as u8,
-        (size / 256 / 256 / 256 % 256) as u8,
-    ]
+    let mut header =
+        *b"RIFF\0\0\0\0WAVEfmt \x10\0\0\0\x01\0\0\0\0\0\0\0\0\0\0\0\0\0\x10\0data\0\0\0\0";
+    digits::put_le::<4>(&mut header, 4, riff as u64);
+    digits::put_le::<2>(&mut header, 22, channels as u64);
+    digits::put_le::<4>(&mut header, 24, rate as u64);
+    digits::put_le::<4>(&mut header, 28, byte_rate as u64);
+    digits::put_le::<2>(&mut header, 32, align as u64);
+    digits::put_le::<4>(&mut header, 40, size as u64);
+    header
 }
 
 // Internal: the samples, two bytes each, from the front of `out` on.
@@ -67,41 +31,42 @@ fn put_samples(samples: &[i16], out: &mut [u8])
     requires { 2 * length samples.now ≤ length out.old }
     ensures { out.new ≡ sample_bytes samples.now ++ drop (2 * length samples.now) out.old }
 {
-    let mut i = 0;
-    while i < samples.len() {
-        let b = signed::sample_bytes(samples[i]);
-        let at = 2 * i;
-        out[at] = b[0];
-        out[at + 1] = b[1];
-        i += 1;
+    for (i, sample) in samples.iter().enumerate() {
+        let bytes = signed::sample_bytes(*sample);
+        out[2 * i..2 * i + 2].copy_from_slice(&bytes);
     }
 }
 
 // Writes a WAV file of the samples, which are interleaved, to the front of `out`, and answers its length. Rate 0 and a partial frame
 // are accepted; a refusal leaves the output as it was.
-pub fn write_pcm16_wave(channels: u8, rate: u32, samples: &[i16], out: &mut [u8]) -> WaveFilled
+pub fn write_pcm16_wave(
+    channels: u8,
+    rate: u32,
+    samples: &[i16],
+    out: &mut [u8],
+) -> Result<usize, WaveError>
     ensures { AsWritten channels rate samples.now out.old result out.new }
 {
     if !wav_format::one_or_two(channels as u16) {
-        return WaveFilled::Refused(WaveError::WriterChannels);
+        return Err(WaveError::WriterChannels);
     }
     let size = 2 * samples.len();
     if 4294967295 < size {
-        return WaveFilled::Refused(WaveError::DataSize);
+        return Err(WaveError::DataSize);
     }
     if 4294967295 < size + 36 {
-        return WaveFilled::Refused(WaveError::RiffSize);
+        return Err(WaveError::RiffSize);
     }
     let byte_rate = (rate as u64) * ((channels as u64) * 2);
     if 4294967295 < byte_rate {
-        return WaveFilled::Refused(WaveError::WriterByteRate);
+        return Err(WaveError::WriterByteRate);
     }
     let needed = 44 + size;
     if out.len() < needed {
-        return WaveFilled::Refused(WaveError::OutputTooShort(needed));
+        return Err(WaveError::OutputTooShort(needed));
     }
     let header = wave_header(channels, rate, byte_rate as u32, size as u32);
     out[..44].copy_from_slice(&header);
     put_samples(samples, &mut out[44..]);
-    WaveFilled::Filled(needed)
+    Ok(needed)
 }
