@@ -14,14 +14,15 @@ use lib.Seq.{take_all, get_or-drop}
 use lib.Signed.{mag}
 use borrow.Author.Tests.{le-ltb}
 use Rattle.signed.specs.Signed.{clamp16, depth}
-use Rattle.signed.proofs.Laws.{cond_ind, depth_back}
+use Rattle.signed.proofs.Laws.{cond_ind, depth_le, depth_back}
 use Rattle.format.specs.Layout.{bits}
 use Rattle.format.specs.Step.{step_at, difference, unclamped_predictor, unclamped_index, stepped}
 use Rattle.format.specs.Decode.{InRange}
 use Rattle.format.specs.declared.Variant.{Variant}
 use Rattle.format.specs.declared.State.{State}
 use Rattle.adpcm.proofs.Bounds.{step_high, difference_small}
-use Rattle.lookup.specs.Lookup.{Lookup, difference_rule, kept, state_of, lowered, looked}
+use Rattle.lookup.specs.Lookup.{Lookup, Held, difference_rule, kept, state_of, lowered, looked}
+use Rattle.lookup.specs.declared.Point.{Point}
 
 -- ---- a depth after a difference
 
@@ -90,3 +91,25 @@ module _ {version : ℕ} {variant : Variant} {differences nexts : List ℕ} (t :
 pub kept_back : (variant : Variant) (s : State) → InRange s → state_of variant (kept variant s) ≡ s
 unfolding state_of
 kept_back variant s r = rw (depth_back s.predictor r.predictor, mul-div_cancel s.index (pow_pos (bits variant)))
+
+-- ---- what the tables hold of a state
+
+pub held : (variant : Variant) (s : State) → InRange s → Held variant (kept variant s)
+held variant s r = record { range = rw (kept_back variant s r) r; same = ap (kept variant) (sym (kept_back variant s r)) }
+
+module _ {variant : Variant} {s : Point} (h : Held variant s) where
+  pub held_depth : s.depth ≤ 65535
+  held_depth = rw (ap (λ p. p.depth) h.same) (depth_le _ h.range.predictor)
+
+module _ {version : ℕ} {variant : Variant} {differences nexts : List ℕ} (t : Lookup version variant differences nexts)
+    {s : Point} (h : Held variant s) (code : ℕ) (l : code < 2 ^ bits variant) where
+  -- what a step needs
+  pub held_needs : (s.depth ≤ 65535) × (s.at + code < length differences) × (length nexts ≡ length differences) × (65535 ≤ get_or differences (s.at + code) 0)
+  held_needs =
+      let row = ap (λ p. p.at) h.same in
+      let n = step_needs t (state_of variant s) code h.range l in
+      (held_depth h, rw row n.0, n.1, rw row n.2)
+
+  -- the point after it
+  pub held_step : looked differences nexts s code ≡ kept variant (stepped version variant (state_of variant s) code)
+  held_step = ap (λ p. looked differences nexts p code) h.same ∙ looked_is t (state_of variant s) code h.range l

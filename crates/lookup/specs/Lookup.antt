@@ -3,6 +3,7 @@ use Rattle.std.specs.Prelude.{ℕ, ◌+◌, ◌-◌, ◌*◌, ◌/◌, ◌^◌, 
 use Rattle.signed.specs.Signed.{clamp_to, depth}
 use Rattle.format.specs.Layout.{bits}
 use Rattle.format.specs.Step.{step_at, difference, adjustment}
+use Rattle.format.specs.Decode.{InRange}
 use Rattle.format.specs.declared.Variant.{Variant}
 use Rattle.format.specs.declared.State.{State}
 use Rattle.lookup.specs.declared.Point.{Point}
@@ -31,6 +32,11 @@ kept variant s = record { depth = depth s.predictor; at = s.index * 2 ^ bits var
 
 unfoldable pub state_of : Variant → Point → State
 state_of variant s = record { predictor = pos 32767 -ℤ pos s.depth; index = s.at / 2 ^ bits variant }
+
+-- what the tables take is a state that a decoding reaches
+pub record Held (variant : Variant) (s : Point) : Type 0 where
+  pub range : InRange (state_of variant s)
+  pub same : s ≡ kept variant (state_of variant s)
 
 -- a depth in 0..65535 after the difference of an entry: lower by it, cut at 0 and at 65535
 abbrev pub lowered : ℕ → ℕ → ℕ

@@ -3,44 +3,131 @@
 // proofs/Steps.
 #![tactic(auto)]
 
-ghost use Rattle.std.specs.Prelude.{◌≡◌, ◌+◌, ◌-◌, ◌/◌, ◌<◌, ◌≤◌, ◌^◌, length, get_or};
+ghost use Rattle.std.specs.Prelude.{◌≡◌, ◌<◌, ◌≤◌, ◌^◌};
+ghost use Rattle.signed.specs.Signed.{depth};
 ghost use Rattle.format.specs.Layout.{bits};
-ghost use Rattle.format.specs.Decode.{InRange};
-ghost use Rattle.lookup.specs.Lookup.{kept, lowered, looked, state_of};
+ghost use Rattle.format.specs.Step.{stepped};
+ghost use Rattle.lookup.specs.Lookup.{Lookup, Held, lowered, state_of};
 
-use format::{State, Variant};
+use entries::{
+    H_DIFFERENCES, H_NEXTS, L_DIFFERENCES, L_NEXTS, L_PLUS_DIFFERENCES, LEGACY_L_PLUS_DIFFERENCES,
+};
+use format::{Coding, Reached, State, Variant};
 
-pub mod tables;
+mod entries;
 
-// A state as the tables take it: how far the predictor lies below 32767, and where the row of the index begins.
+// The two tables of a coding: the differences, and the next rows.
+#[derive(Clone, Copy)]
+pub struct Tables {
+    pub coding: Coding,
+    differences: &'static [u32],
+    nexts: &'static [u16],
+    ghost looked_up: { Lookup coding.version coding.variant differences.now nexts.now },
+}
+
+impl Tables {
+    // Internal: a coding with its tables.
+    fn new(coding: Coding, differences: &'static [u32], nexts: &'static [u16]) -> Tables
+        requires { Lookup coding.version coding.variant differences.now nexts.now }
+        ensures { result.coding ≡ coding }
+    {
+        Tables {
+            coding,
+            differences,
+            nexts,
+        }
+    }
+
+    // The tables of a coding; L+ has differences of its own in version 1.
+    pub fn of(coding: Coding) -> Tables
+        ensures { result.coding ≡ coding }
+    {
+        match coding.variant {
+            Variant::H => Tables::new(coding, &H_DIFFERENCES, &H_NEXTS),
+            Variant::L => Tables::new(coding, &L_DIFFERENCES, &L_NEXTS),
+            Variant::LPlus => if coding.version == 1 {
+                Tables::new(coding, &LEGACY_L_PLUS_DIFFERENCES, &L_NEXTS)
+            } else {
+                Tables::new(coding, &L_PLUS_DIFFERENCES, &L_NEXTS)
+            }
+        }
+    }
+
+    // A state, as the tables take it.
+    pub fn keep(self, state: Reached) -> Kept
+        ensures { (result.tables ≡ self) × (state_of self.coding.variant result.point ≡ state.state) }
+    {
+        let state = state.state;
+        let point = Point {
+            depth: signed::depth(state.predictor),
+            at: state.index * row_size(self.coding.variant),
+        };
+        Kept {
+            tables: self,
+            point,
+        }
+    }
+}
+
+// How far a predictor lies below 32767, and where the row of an index begins.
 #[derive(Clone, Copy)]
 pub struct Point {
     pub depth: u32,
     pub at: usize,
 }
 
+// A state that a decoding reaches, as the tables of its coding take it.
+#[derive(Clone, Copy)]
+pub struct Kept {
+    pub tables: Tables,
+    pub point: Point,
+    ghost held: { Held tables.coding.variant point },
+}
+
+impl Kept {
+    // Internal: the state after a code. The next row is read from the table's rest behind the code, so that it waits for the row
+    // alone.
+    pub fn step(self, code: u8) -> Kept
+        requires { code < 2 ^ bits self.tables.coding.variant }
+        ensures { (result.tables ≡ self.tables)
+            × (state_of self.tables.coding.variant result.point ≡ stepped self.tables.coding.version self.tables.coding.variant (state_of self.tables.coding.variant self.point) code) }
+    {
+        let tables = self.tables;
+        let from = self.point.at;
+        let code = code as usize;
+        let depth = move_depth(self.point.depth, tables.differences[from + code]);
+        let rest = &tables.nexts[code..];
+        let at = rest[from] as usize;
+        Kept {
+            tables,
+            point: Point { depth, at },
+        }
+    }
+
+    // How far the predictor lies below 32767.
+    pub fn depth(self) -> u16
+        ensures { result ≡ depth (state_of self.tables.coding.variant self.point).predictor }
+    {
+        self.point.depth as u16
+    }
+
+    // The state, as the tables gave it.
+    pub fn state(self) -> Reached
+        ensures { result.state ≡ state_of self.tables.coding.variant self.point }
+    {
+        let predictor = signed::at_depth(self.point.depth) as i32;
+        let index = self.point.at / row_size(self.tables.coding.variant);
+        Reached {
+            state: State { predictor, index },
+        }
+    }
+}
+
 // Entries of a row: one for each code.
 fn row_size(variant: Variant) -> usize
     ensures { result ≡ 2 ^ bits variant }
 {
-    match variant {
-        Variant::H => 16,
-        Variant::L => 8,
-        Variant::LPlus => 8,
-    }
-}
-
-// Internal: a state, as the tables take it.
-pub fn keep(variant: Variant, state: State) -> Point
-    requires { InRange state }
-    ensures { result ≡ kept variant state }
-{
-    let predictor = state.predictor;
-    let index = state.index;
-    Point {
-        depth: signed::depth(predictor),
-        at: index * row_size(variant),
-    }
+    1 << variant.bits()
 }
 
 // Internal: a depth after a difference as a table holds it. Each limit is kept by a difference cut at 0, so that no jump is taken.
@@ -48,39 +135,5 @@ fn move_depth(depth: u32, entry: u32) -> u32
     requires { (depth ≤ 65535) × (65535 ≤ entry) }
     ensures { (result ≡ lowered depth entry) × (result ≤ 65535) }
 {
-    signed::less(65535, signed::less(entry - depth, 65536))
-}
-
-// An entry, as a place.
-fn place(entry: u16) -> usize
-    ensures { result ≡ entry }
-{
-    entry as usize
-}
-
-// Internal: the state after a code. The next row is read from the table's rest behind the code, so that it waits for the row alone.
-pub fn step(s: Point, code: u8, differences: &[u32], nexts: &[u16]) -> Point
-    requires { (s.depth ≤ 65535) × (s.at + code < length differences.now) × (length nexts.now ≡ length differences.now)
-        × (65535 ≤ get_or differences.now (s.at + code) 0) }
-    ensures { (result ≡ looked differences.now nexts.now s code) × (result.depth ≤ 65535) }
-{
-    let from = s.at;
-    let code = code as usize;
-    let k = from + code;
-    let depth = move_depth(s.depth, differences[k]);
-    let rest = &nexts[code..];
-    let at = place(rest[from]);
-    Point { depth, at }
-}
-
-// Internal: a state, as the tables gave it.
-pub fn state_of(variant: Variant, s: Point) -> State
-    requires { s.depth ≤ 65535 }
-    ensures { result ≡ state_of variant s }
-{
-    let depth = s.depth;
-    let at = s.at;
-    let predictor = signed::at_depth(depth) as i32;
-    let index = at / row_size(variant);
-    State { predictor, index }
+    65535u32.saturating_sub((entry - depth).saturating_sub(65536))
 }

@@ -1,53 +1,6 @@
 // The tables of the steps, a row of entries for each index 0..=88, with an entry for each code: the difference that the code stands
-// for, raised by 131071, and where the row of the next index begins. Each is to be bound once above the loops and lent down: each use
-// of a constant array makes it anew.
-ghost use Rattle.std.specs.Prelude.{ℕ, ◌≡◌, false, eqb};
-ghost use Rattle.format.specs.declared.Variant.TheVariants as variants;
-ghost use Rattle.lookup.specs.Lookup.{Rows, difference_rule, next_rule};
-
-// The differences of H.
-pub fn h_differences() -> [u32; 1424]
-    ensures { (version : ℕ) → Rows 16 (difference_rule version variants.H) result }
-{
-    H_DIFFERENCES
-}
-
-// The differences of L.
-pub fn l_differences() -> [u32; 712]
-    ensures { (version : ℕ) → Rows 8 (difference_rule version variants.L) result }
-{
-    L_DIFFERENCES
-}
-
-// The differences of L+ but in version 1.
-pub fn l_plus_differences() -> [u32; 712]
-    ensures { (version : ℕ) → eqb version 1 ≡ false → Rows 8 (difference_rule version variants.LPlus) result }
-{
-    L_PLUS_DIFFERENCES
-}
-
-// The differences of L+ in version 1.
-pub fn legacy_l_plus_differences() -> [u32; 712]
-    ensures { Rows 8 (difference_rule 1 variants.LPlus) result }
-{
-    LEGACY_L_PLUS_DIFFERENCES
-}
-
-// The next rows of H.
-pub fn h_nexts() -> [u16; 1424]
-    ensures { Rows 16 (next_rule variants.H) result }
-{
-    H_NEXTS
-}
-
-// The next rows of L and L+.
-pub fn l_nexts() -> [u16; 712]
-    ensures { (Rows 8 (next_rule variants.L) result) × (Rows 8 (next_rule variants.LPlus) result) }
-{
-    L_NEXTS
-}
-
-const H_DIFFERENCES: [u32; 1424] = [
+// for, raised by 131071, and where the row of the next index begins. What each entry is stands in proofs/Contents.
+pub static H_DIFFERENCES: [u32; 1424] = [
     131071, 131072, 131074, 131075, 131078, 131079, 131081, 131082, 131071, 131070, 131068, 131067,
     131064, 131063, 131061, 131060, 131072, 131074, 131076, 131078, 131080, 131082, 131084, 131086,
     131070, 131068, 131066, 131064, 131062, 131060, 131058, 131056, 131072, 131074, 131076, 131078,
@@ -169,7 +122,7 @@ const H_DIFFERENCES: [u32; 1424] = [
     126976, 118785, 110593, 102402, 94209, 86018, 77826, 69635,
 ];
 
-const L_DIFFERENCES: [u32; 712] = [
+pub static L_DIFFERENCES: [u32; 712] = [
     131072, 131074, 131075, 131077, 131070, 131068, 131067, 131065, 131072, 131074, 131076, 131078,
     131070, 131068, 131066, 131064, 131072, 131074, 131077, 131079, 131070, 131068, 131065, 131063,
     131072, 131075, 131077, 131080, 131070, 131067, 131065, 131062, 131072, 131075, 131078, 131081,
@@ -232,7 +185,7 @@ const L_DIFFERENCES: [u32; 712] = [
     126975, 118783, 110592, 102400,
 ];
 
-const L_PLUS_DIFFERENCES: [u32; 712] = [
+pub static L_PLUS_DIFFERENCES: [u32; 712] = [
     131072, 131073, 131074, 131083, 131070, 131069, 131068, 131059, 131072, 131073, 131074, 131085,
     131070, 131069, 131068, 131057, 131072, 131073, 131074, 131087, 131070, 131069, 131068, 131055,
     131072, 131074, 131075, 131089, 131070, 131068, 131067, 131053, 131072, 131074, 131075, 131090,
@@ -295,7 +248,7 @@ const L_PLUS_DIFFERENCES: [u32; 712] = [
     126975, 122879, 118783, 73729,
 ];
 
-const LEGACY_L_PLUS_DIFFERENCES: [u32; 712] = [
+pub static LEGACY_L_PLUS_DIFFERENCES: [u32; 712] = [
     131080, 131081, 131082, 131083, 131062, 131061, 131060, 131059, 131081, 131082, 131083, 131085,
     131061, 131060, 131059, 131057, 131082, 131083, 131085, 131087, 131060, 131059, 131057, 131055,
     131084, 131085, 131086, 131089, 131058, 131057, 131056, 131053, 131085, 131086, 131088, 131090,
@@ -358,7 +311,7 @@ const LEGACY_L_PLUS_DIFFERENCES: [u32; 712] = [
     90112, 86016, 81920, 73729,
 ];
 
-const H_NEXTS: [u16; 1424] = [
+pub static H_NEXTS: [u16; 1424] = [
     0, 0, 0, 0, 32, 64, 96, 128, 0, 0, 0, 0, 32, 64, 96, 128, 0, 0, 0, 0, 48, 80, 112, 144, 0, 0,
     0, 0, 48, 80, 112, 144, 16, 16, 16, 16, 64, 96, 128, 160, 16, 16, 16, 16, 64, 96, 128, 160, 32,
     32, 32, 32, 80, 112, 144, 176, 32, 32, 32, 32, 80, 112, 144, 176, 48, 48, 48, 48, 96, 128, 160,
@@ -440,7 +393,7 @@ const H_NEXTS: [u16; 1424] = [
     1392, 1392, 1392, 1392, 1408, 1408, 1408, 1408,
 ];
 
-const L_NEXTS: [u16; 712] = [
+pub static L_NEXTS: [u16; 712] = [
     0, 16, 32, 48, 0, 16, 32, 48, 0, 24, 40, 56, 0, 24, 40, 56, 8, 32, 48, 64, 8, 32, 48, 64, 16,
     40, 56, 72, 16, 40, 56, 72, 24, 48, 64, 80, 24, 48, 64, 80, 32, 56, 72, 88, 32, 56, 72, 88, 40,
     64, 80, 96, 40, 64, 80, 96, 48, 72, 88, 104, 48, 72, 88, 104, 56, 80, 96, 112, 56, 80, 96, 112,
