@@ -14,12 +14,8 @@ use Rattle.format.specs.Layout.{anew, bits, prefix, payload, frame_samples, volu
 use Rattle.format.specs.Decode.{start_state, codes_of, after, decoded_fragment}
 use Rattle.format.specs.declared.Variant.{Variant}
 use Rattle.format.specs.declared.State.{State}
-use Rattle.format.proofs.Sizes.{bits_some, bits_few}
 use Rattle.fragment_core.specs.Run.{sample_at}
 use Rattle.fragment_core.proofs.Run.{after_same, samples_same}
-
-pub bits_held : {b : ℕ} (variant : Variant) → b ≡ bits variant → (0 < b) × (b ≤ 8)
-bits_held variant e = (omega (arith, e, bits_some variant), omega (arith, e, bits_few variant))
 
 pub frame_few : (b : Bool) → cond b 63 64 ≤ 64
 frame_few true = omega arith
@@ -55,15 +51,16 @@ module _ (version : ℕ) (variant : Variant) (fragment : List ℕ) where
         ∙ samples_same version variant first_codes (codes_of version variant fragment) (start_state version s fragment) (volume_byte fragment) n
         (λ i l. codes_same i (omega arith))
 
-    pub run_after : {codes : List ℕ} → codes ≡ first_codes → (start : State)
+    run_after : {codes : List ℕ} → codes ≡ first_codes → (start : State)
         → after version variant codes start n ≡ after version variant (codes_of version variant fragment) start n
     run_after ec start =
         rw ec (after_same version variant first_codes (codes_of version variant fragment) start n (λ i l. codes_same i (omega arith)))
 
-    pub run_state : {codes : List ℕ} {t : State} → anew version ≡ false → codes ≡ first_codes → t ≡ after version variant codes s n
-        → t ≡ (decoded_fragment version variant s fragment n).state
+    pub run_state : {start end r : State} {codes : List ℕ} → start ≡ start_state version s fragment → codes ≡ first_codes
+        → end ≡ after version variant codes start n → r ≡ cond (anew version) s end
+        → r ≡ (decoded_fragment version variant s fragment n).state
     unfolding decoded_fragment
-    run_state e ec et = rw e (et ∙ run_after ec s)
+    run_state {start} es ec ee er = er ∙ rw (ee, run_after ec start, es)
 
 -- from version 3 on the samples do not depend on the given state
 pub samples_anew : (version : ℕ) (variant : Variant) (s t : State) (fragment : List ℕ) (n : ℕ) → anew version ≡ true

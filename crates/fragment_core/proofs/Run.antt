@@ -2,7 +2,7 @@
 -- Assumes nothing.
 use mathlib.Core.Path.{◌≡◌, refl, sym, ◌∙◌}
 use mathlib.Core.List.{List}
-use Prim.Native.Nat.{ℕ, zero, suc, ◌+◌, ◌≤◌, ◌<◌}
+use Prim.Native.Nat.{ℕ, zero, suc, ◌+◌, ◌<◌}
 use native.Mathlib.Numerals.{add-one}
 use native.Mathlib.Omega.{arith}
 use lib.IntN.{ℤ}
@@ -12,43 +12,37 @@ use Rattle.lists.specs.Lists.{tabulate}
 use Rattle.lists.proofs.ByIndex.{tabulate_ext}
 use Rattle.format.specs.Step.{stepped}
 use Rattle.format.specs.Gain.{output_gain}
-use Rattle.format.specs.Decode.{after, InRange}
+use Rattle.format.specs.Decode.{after}
 use Rattle.format.specs.declared.Variant.{Variant}
 use Rattle.format.specs.declared.State.{State}
-use Rattle.format.proofs.Range.{stepped_range}
 use Rattle.fragment_core.specs.Run.{sample_at}
 
 module _ (version : ℕ) (variant : Variant) (codes : List ℕ) (s₀ : State) (volume : ℕ) (out₀ : List ℤ) where
   -- i codes are decoded into out, which was out₀, and s is the state after them
   pub record Decoded (i : ℕ) (out : List ℤ) (s : State) : Type 0 where
-    pub within : i ≤ length out₀
     pub long : length out ≡ length out₀
     pub done : take i out ≡ tabulate (sample_at version variant codes s₀ volume) i
     pub state : s ≡ after version variant codes s₀ i
-    pub range : InRange s
 
-  pub decoded_none : InRange s₀ → Decoded 0 out₀ s₀
+  pub decoded_none : Decoded 0 out₀ s₀
   unfolding after tabulate
-  decoded_none r = record { within = omega arith; long = refl; done = refl; state = refl; range = r }
+  decoded_none = record { long = refl; done = refl; state = refl }
 
   pub decoded_more : {i : ℕ} {out : List ℤ} {s t : State} {x : ℤ} → Decoded i out s → i < length out₀
       → t ≡ stepped version variant s (get_or codes i 0) → x ≡ output_gain version volume t.predictor → Decoded (i + 1) (set out i x) t
   unfolding after tabulate sample_at
   decoded_more {i} {out} {s} {t} {x} d l et ex =
       let e : t ≡ after version variant codes s₀ (suc i) = cc in
-      let f = take-suc-set out i x (omega arith) in
+      let f = take-suc-set out i x (omega (arith, d.long)) in
       record {
-        within = omega arith;
         long = simp length-set d.long;
         done = rw add-one (f ∙ rw (d.done, ex, e));
         state = rw add-one e;
-        range = rw et (stepped_range version variant s (get_or codes i 0));
       }
 
-  pub decoded_all : {i : ℕ} {out : List ℤ} {s : State} → Decoded i out s → length out₀ ≤ i
+  pub decoded_all : {i : ℕ} {out : List ℤ} {s : State} → Decoded i out s → i ≡ length out₀
       → (s ≡ after version variant codes s₀ (length out₀)) × (out ≡ tabulate (sample_at version variant codes s₀ volume) (length out₀))
-  decoded_all {i} {out} {s} d l =
-      let e : i ≡ length out₀ = omega arith in
+  decoded_all {i} {out} {s} d e =
       let whole = take_all i out (omega (arith, d.long)) in
       (rw (← e) d.state, rw e at (sym whole ∙ d.done))
 

@@ -1,98 +1,61 @@
-// Decoding one fragment whose checks have passed: the loop over its codes, a core for version 3 and one for versions 1 and 2.
+// Decoding one fragment whose checks have passed: the loop over its codes, and the states before and after it.
 #![tactic(auto)]
 
-ghost use Rattle.std.specs.Prelude.{◌≡◌, true, ℕ, ◌<◌, ◌≤◌, ◌^◌, length, get_or};
-ghost use Rattle.std.specs.Int.Signed.{mag};
+ghost use Rattle.std.specs.Prelude.{◌≡◌, cond, ℕ, ◌<◌, ◌≤◌, ◌^◌, length, get_or};
 ghost use Rattle.lists.specs.Lists.{tabulate};
-ghost use Rattle.format.specs.Tables as tables;
-ghost use Rattle.format.specs.Layout.{known_version, bits, fragment_size};
-ghost use Rattle.format.specs.Gain.{output_gain};
-ghost use Rattle.format.specs.Decode.{zero_state, after, decoded_fragment, InRange, fragment_fits, state_fits};
+ghost use Rattle.format.specs.Layout.{anew, bits, fragment_size, frame_samples};
+ghost use Rattle.format.specs.Decode.{start_state, after, decoded_fragment};
 ghost use Rattle.fragment_core.specs.Run.{sample_at};
 
-use format::{State, Variant};
+use format::{Coding, Reached};
 
-// Internal: the output gain of a version.
-fn output_gain(version: u8, reconstructed: i32, volume: u8) -> i16
-    requires { mag reconstructed ≤ 32767 }
-    ensures { result ≡ output_gain version volume reconstructed }
+// Internal: the state before a fragment's first code.
+pub fn state_before(coding: Coding, state: Reached, fragment: &[u8]) -> Reached
+    requires { 2 ≤ length fragment.now }
+    ensures { result.state ≡ start_state coding.version state.state fragment.now }
 {
-    if 3 <= version {
-        return gain::apply_volume(reconstructed, volume);
+    if coding.starts_anew() {
+        Reached::fragment_start(fragment[1])
+    } else {
+        state
     }
-    gain::apply_legacy_volume(reconstructed, volume)
+}
+
+// The state after a fragment: where each fragment starts anew, the one before it.
+pub fn state_after(coding: Coding, state: Reached, end: Reached) -> Reached
+    ensures { result.state ≡ cond (anew coding.version) state.state end.state }
+{
+    if coding.starts_anew() { state } else { end }
 }
 
 // Internal: decodes a code for each place of `out`, and returns the state after the last.
 fn decode_codes(
-    steps: &[i32; 89],
-    version: u8,
-    variant: Variant,
-    state: State,
-    codes: [u8; 64],
+    coding: Coding,
+    start: Reached,
+    codes: &[u8; 64],
     volume: u8,
     out: &mut [i16],
-) -> State
-    requires { (steps.now ≡ tables.steps) × InRange state × (length out.old ≤ 64)
-        × ((i : ℕ) → get_or codes i 0 < 2 ^ bits variant) }
-    ensures { (result ≡ after version variant codes state (length out.old))
-        × (out.new ≡ tabulate (sample_at version variant codes state volume) (length out.old)) }
+) -> Reached
+    requires { (length out.old ≤ 64) × ((i : ℕ) → get_or codes.now i 0 < 2 ^ bits coding.variant) }
+    ensures { (result.state ≡ after coding.version coding.variant codes.now start.state (length out.old))
+        × (out.new ≡ tabulate (sample_at coding.version coding.variant codes.now start.state volume) (length out.old)) }
 {
-    let mut s = state;
-    let mut i: usize = 0;
-    while i < out.len() {
-        s = adpcm::update(steps, version, variant, s, codes[i]);
-        let p = s.predictor;
-        out[i] = output_gain(version, p, volume);
-        i += 1;
+    let mut state = start;
+    for (i, sample) in out.iter_mut().enumerate() {
+        state = adpcm::update(coding, state, codes[i]);
+        *sample = gain::output_gain(coding, state.state.predictor as i16, volume);
     }
-    s
+    state
 }
 
-// Internal: the samples of a version 3 fragment, which starts anew.
-fn decode_fragment(variant: Variant, fragment: &[u8], out: &mut [i16])
-    requires { (length fragment.now ≡ fragment_size 3 variant) × (length out.old ≤ 63) }
-    ensures { out.new ≡ (decoded_fragment 3 variant zero_state fragment.now (length out.old)).samples }
+// Internal: as many samples of a fragment as `out` has places, and the state after them.
+pub fn decode_fragment(coding: Coding, state: Reached, fragment: &[u8], out: &mut [i16]) -> Reached
+    requires { (length fragment.now ≡ fragment_size coding.version coding.variant) × (length out.old ≤ frame_samples coding.version) }
+    ensures { (result.state ≡ (decoded_fragment coding.version coding.variant state.state fragment.now (length out.old)).state)
+        × (out.new ≡ (decoded_fragment coding.version coding.variant state.state fragment.now (length out.old)).samples) }
 {
-    let steps = adpcm::steps();
-    let codes = digits::unpack_codes(&fragment[Variant::FRAGMENT_PREFIX..], variant.bits());
-    let start = State::fragment_start(fragment[1]);
-    decode_codes(&steps, 3, variant, start, codes, fragment[0], out);
-}
-
-// Internal: the samples of a fragment of versions 1 and 2, which goes on from the channel's state, and the state after it.
-fn decode_legacy_fragment(
-    version: u8,
-    variant: Variant,
-    state: State,
-    fragment: &[u8],
-    out: &mut [i16],
-) -> State
-    requires { (version < 3) × (length fragment.now ≡ fragment_size version variant)
-        × (length out.old ≤ 64) × InRange state }
-    ensures { (result ≡ (decoded_fragment version variant state fragment.now (length out.old)).state)
-        × (out.new ≡ (decoded_fragment version variant state fragment.now (length out.old)).samples) }
-{
-    let steps = adpcm::steps();
-    let codes = digits::unpack_codes(&fragment[Variant::LEGACY_FRAGMENT_PREFIX..], variant.bits());
-    decode_codes(&steps, version, variant, state, codes, fragment[0], out)
-}
-
-// Internal: a fragment of any version, once the checks of the public decoder have passed: its samples, and the state after it.
-pub fn decode_checked(
-    version: u8,
-    variant: Variant,
-    state: State,
-    fragment: &[u8],
-    out: &mut [i16],
-) -> State
-    requires { (known_version version ≡ true) × (fragment_fits version variant fragment.now (length out.old) ≡ true) × (state_fits version state ≡ true) }
-    ensures { (result ≡ (decoded_fragment version variant state fragment.now (length out.old)).state)
-        × (out.new ≡ (decoded_fragment version variant state fragment.now (length out.old)).samples) }
-{
-    if 3 <= version {
-        decode_fragment(variant, fragment, out);
-        return state;
-    }
-    decode_legacy_fragment(version, variant, state, fragment, out)
+    let start = state_before(coding, state, fragment);
+    let codes = digits::unpack_codes(&fragment[coding.prefix_size()..], coding.variant.bits());
+    let end = decode_codes(coding, start, &codes, fragment[0], out);
+    state_after(coding, state, end)
 }

@@ -1,7 +1,6 @@
--- Normalising and output gain keep 16 bits, and versions 1 and 2 have one output gain. Assumes nothing.
-use Rattle.std.proofs.Common.{◌≡◌, ℕ, ◌+◌, ◌*◌, ◌/◌, ◌<◌, ◌≤◌, Bool, true, false, cond, ℤ, nat_abs, refl, ap, mul-le-mul_left, arith}
+-- Normalising and output gain keep 16 bits. Assumes nothing.
+use Rattle.std.proofs.Common.{◌≡◌, ℕ, ◌+◌, ◌*◌, ◌/◌, ◌≤◌, Bool, true, false, cond, ℤ, nat_abs, refl, ap, mul-le-mul_left, arith}
 use lib.Signed.{mag}
-use borrow.Author.Tests.{lt-leb}
 use Rattle.signed.specs.Signed.{is_neg, with_sign, on_magnitude}
 use Rattle.signed.proofs.Laws.{mag_with_sign, clamp_fits}
 use Rattle.format.specs.Layout.{anew}
@@ -18,11 +17,6 @@ scaled_fits g half x hg hh = mag_with_sign x _ (gain_le (nat_abs x) g half hg hh
 pub normalised-fits : (v : ℕ) (x : ℤ) → mag (normalised v x) ≤ 32767
 unfolding normalised
 normalised-fits v x = clamp_fits (on_magnitude (λ m. nearest (m * 255) v) x)
-
--- versions 1 and 2 have one output gain
-pub legacy_gain : (version v : ℕ) (x : ℤ) → version < 3 → output_gain version v x ≡ output_gain 1 v x
-unfolding output_gain
-legacy_gain version v x h = rw (lt-leb 3 version h)
 
 -- the output gain is one division, with the version's rounding
 pub output_scaled : (version v : ℕ) (x : ℤ) → with_sign (is_neg x) ((nat_abs x * v + rounding version) / 255) ≡ output_gain version v x

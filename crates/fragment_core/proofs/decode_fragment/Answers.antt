@@ -1,30 +1,27 @@
 -- `fragment_core::decode_fragment` meets its contract: its 64 codes begin with those of the fragment. Assumes nothing.
 use native.Mathlib.Omega.{arith}
 use mathlib.Core.Path.{◌≡◌, refl}
-use Rattle.format.specs.Decode.{zero_state}
-use Rattle.format.proofs.Range.{start_range}
-use Rattle.fragment_core.proofs.Fragments.{first_codes, bits_held, codes_first, codes_small, run_samples}
+use Rattle.format.specs.Layout.{anew}
+use Rattle.fragment_core.proofs.Fragments.{frame_few, first_codes, codes_first, codes_small, run_samples, run_state}
 use Rattle.fragment_core.proofs.decode_fragment.Goals as goal
 use Rattle.fragment_core.proofs.decode_fragment.Goals.{After-unpack_codes-codes}
 
 -- the 64 codes that are unpacked
-codes_are : (c : After-unpack_codes-codes) → c.unpack_codes-codes.result ≡ first_codes 3 c.args.variant c.args.fragment.now
+codes_are : (c : After-unpack_codes-codes) → c.unpack_codes-codes.result ≡ first_codes c.args.coding.version c.args.coding.variant c.args.fragment.now
 codes_are c =
     let a = c.args in
-    codes_first 3 a.variant a.fragment.now c.unpack_codes-codes.ensures c.bits.ensures refl
+    codes_first a.coding.version a.coding.variant a.fragment.now c.unpack_codes-codes.ensures c.bits.ensures c.prefix_size.ensures.0
 
-pub unpack_codes-codes-requires : goal.unpack_codes-codes-requires
-unpack_codes-codes-requires c = bits_held c.args.variant c.bits.ensures
-
-pub decode_codes-requires : goal.decode_codes-requires
-decode_codes-requires c = (
-  c.steps-steps.ensures,
-  rw c.fragment_start-start.ensures (start_range _),
-  omega arith,
-  codes_small 3 c.args.variant c.args.fragment.now (codes_are (goal.at.decode_codes-requires c).After-unpack_codes-codes),
-)
+pub decode_codes-end-requires : goal.decode_codes-end-requires
+decode_codes-end-requires c =
+    let a = c.args in
+    (omega (arith, frame_few (anew a.coding.version)), codes_small a.coding.version a.coding.variant a.fragment.now (codes_are (goal.at.decode_codes-end-requires c).After-unpack_codes-codes))
 
 pub returns : goal.returns
 returns c =
-    run_samples 3 c.args.variant c.args.fragment.now zero_state _ c.requires.1
-    c.fragment_start-start.ensures (codes_are (goal.at.returns c).After-unpack_codes-codes) refl c.decode_codes.ensures.1
+    let a = c.args in
+    let es = c.state_before-start.ensures in
+    let ec = codes_are (goal.at.returns c).After-unpack_codes-codes in (
+      run_state a.coding.version a.coding.variant a.fragment.now a.state.state _ c.requires.1 es ec c.decode_codes-end.ensures.0 c.state_after.ensures,
+      run_samples a.coding.version a.coding.variant a.fragment.now a.state.state _ c.requires.1 es ec refl c.decode_codes-end.ensures.1,
+    )
