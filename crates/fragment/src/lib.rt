@@ -1,54 +1,60 @@
 // The public decoder for one fragment, by value: its checks.
 #![tactic(auto)]
 
-ghost use Rattle.std.specs.Prelude.{◌≡◌};
+ghost use Rattle.std.specs.Prelude.{◌≡◌, true, false, length, MatchResult};
+ghost use Rattle.format.specs.Layout.{anew};
 ghost use Rattle.format.specs.Decode.{fragment_fits, state_fits};
 ghost use Rattle.format.specs.Answers.{AsCalled};
+ghost use Rattle.fragment.specs.Tried.{Filled, Refused};
 
-use format::{Error, FragmentDecoded, State, Variant};
+use format::{Coding, Error, Reached, State, Variant};
 
 // Whether the fragment has its size, and an output of `n` samples is not too long for it.
-fn fragment_fits(version: u8, variant: Variant, fragment: &[u8], n: usize) -> bool
-    ensures { result ≡ fragment_fits version variant fragment.now n }
+fn fragment_fits(coding: Coding, fragment: &[u8], n: usize) -> bool
+    ensures { result ≡ fragment_fits coding.version coding.variant fragment.now n }
 {
-    if fragment.len() != format::fragment_size(version, variant) {
-        return false;
-    }
-    n <= format::frame_samples(version)
+    fragment.len() == coding.fragment_size() && n <= coding.frame_samples()
 }
 
-// Whether the state is one of a decoding; version 3 takes any.
-fn state_fits(version: u8, state: State) -> bool
-    ensures { result ≡ state_fits version state }
+// The state to decode from, if it is one of a decoding; a fragment that starts anew takes any, and the zero state stands for it.
+fn usable(coding: Coding, state: State) -> Result<Reached, Error>
+    ensures { MatchResult result (λ reached. (state_fits coding.version state ≡ true) × (anew coding.version ≡ false → reached.state ≡ state))
+        (λ error. (error ≡ Error.InvalidState) × (state_fits coding.version state ≡ false)) }
 {
-    if 3 <= version {
-        return true;
+    if coding.starts_anew() {
+        return Ok(Reached::zero());
     }
-    let p = state.predictor;
-    if p < -32768 {
-        return false;
+    if state.predictor < -32768 || 32767 < state.predictor || 88 < state.index {
+        return Err(Error::InvalidState);
     }
-    if 32767 < p {
-        return false;
-    }
-    state.index <= 88
+    Ok(Reached { state })
 }
 
-// What the decoder of one fragment gives: its answer, and the channel's state after the call.
+// The state after a fragment, whose samples fill the output; an error leaves the output as it was.
+fn decode(coding: Coding, state: State, fragment: &[u8], out: &mut [i16]) -> Result<State, Error>
+    ensures { MatchResult result (Filled coding.version coding.variant state fragment.now out.old out.new)
+        (Refused coding.version coding.variant state fragment.now out.old out.new) }
+{
+    if !format::known_version(coding.version) {
+        return Err(Error::UnsupportedVersion(coding.version));
+    }
+    if !fragment_fits(coding, fragment, out.len()) {
+        return Err(Error::InvalidFragment);
+    }
+    let start = usable(coding, state)?;
+    let end = fragment_core::decode_fragment(coding, start, fragment, out);
+    if coding.starts_anew() {
+        Ok(state)
+    } else {
+        Ok(end.state)
+    }
+}
+
+// What the decoder of one fragment gives: how many samples it wrote or why it refuses, and the channel's state after the call.
 #[derive(Clone, Copy)]
 pub struct Returned {
-    pub answer: FragmentDecoded,
+    pub answer: Result<usize, Error>,
     pub state: State,
-}
-
-// A refusal returns the state that it was given.
-fn refused(error: Error, state: State) -> Returned
-    ensures { (result.answer ≡ FragmentDecoded.Refused error) × (result.state ≡ state) }
-{
-    Returned {
-        answer: FragmentDecoded::Refused(error),
-        state,
-    }
 }
 
 // Decodes as many samples of one fragment as the output has places, at most a frame's. Versions 1 and 2 go on from the state and
@@ -63,19 +69,15 @@ pub fn decode_one(
     ensures { AsCalled version variant state fragment.now out.old
         result.answer result.state out.new }
 {
-    if !format::known_version(version) {
-        return refused(Error::UnsupportedVersion(version), state);
-    }
-    if !fragment_fits(version, variant, fragment, out.len()) {
-        return refused(Error::InvalidFragment, state);
-    }
-    if !state_fits(version, state) {
-        return refused(Error::InvalidState, state);
-    }
-    let n = out.len();
-    let next = fragment_core::decode_checked(version, variant, state, fragment, out);
-    Returned {
-        answer: FragmentDecoded::Filled(n),
-        state: next,
+    let coding = Coding { version, variant };
+    match decode(coding, state, fragment, out) {
+        Ok(next) => Returned {
+            answer: Ok(out.len()),
+            state: next,
+        },
+        Err(error) => Returned {
+            answer: Err(error),
+            state,
+        },
     }
 }

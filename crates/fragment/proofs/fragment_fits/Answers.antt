@@ -5,8 +5,8 @@ use Rattle.fragment.proofs.fragment_fits.Goals as goal
 
 pub returns-then-fragment-fragment_size : goal.returns-then-fragment-fragment_size
 unfolding fragment_fits
-returns-then-fragment-fragment_size c = rw (← c.fragment_size.ensures.0, ne_eqb _ _ c.if-fragment-fragment_size.true)
+returns-then-fragment-fragment_size c = rw (← c.fragment_size.ensures.0, eq-eqb _ _ c.if-fragment-fragment_size.true, ← c.frame_samples.ensures.0)
 
-pub returns : goal.returns
+pub returns-else-fragment-fragment_size : goal.returns-else-fragment-fragment_size
 unfolding fragment_fits
-returns c = rw (← c.fragment_size.ensures.0, eq-eqb _ _ c.if-fragment-fragment_size.false, ← c.frame_samples.ensures.0)
+returns-else-fragment-fragment_size c = rw (← c.fragment_size.ensures.0, ne_eqb _ _ c.if-fragment-fragment_size.false)
