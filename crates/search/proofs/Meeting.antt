@@ -1,7 +1,7 @@
 -- Two trials that stand at one state go on alike: the marks of a trial, and what they say of another. Assumes nothing.
 use mathlib.Core.Path.{◌≡◌, refl, sym, ◌∙◌, ap}
 use mathlib.Core.List.{List}
-use Prim.Native.Nat.{ℕ, zero, suc, ◌+◌, ◌-◌, ◌*◌, ◌/◌, ◌%◌, ◌≤◌, ◌<◌, ◌^◌}
+use Prim.Native.Nat.{ℕ, zero, suc, ◌+◌, ◌-◌, ◌≤◌, ◌<◌}
 use native.Mathlib.Nat.{zero-add, suc-add}
 use native.Mathlib.Omega.{arith}
 use lib.IntN.{ℤ}
@@ -9,36 +9,15 @@ use lib.ListN.{length, get_or, set, take, length-set}
 use lib.Seq.{get_or-take}
 use Rattle.lists.specs.Lists.{tabulate}
 use Rattle.lists.proofs.ByIndex.{get_d_tabulate, fill_next}
-use Rattle.signed.proofs.Raised.{raised_high, raised-same}
-use Rattle.format.specs.Decode.{InRange}
 use Rattle.format.specs.Encode.{trial_step, trial_to}
 use Rattle.format.specs.declared.Settings.{Settings}
 use Rattle.format.specs.declared.State.{State}
-use Rattle.format.proofs.Range.{start_range, stepped_range}
-use Rattle.search.specs.Search.{key, mark_of, marks_of, Unmarked, Rival}
-use Rattle.search.proofs.Summed.{Summed, rises, over_limit}
-
--- ---- a state and its key
-
-key_small : (s : State) → InRange s → key s < 8388608
-unfolding key
-key_small s h = omega (arith, raised_high s.predictor h.predictor, h.index)
-
-same : (a b : ℤ) (i j : ℕ) → a ≡ b → i ≡ j → ◌≡◌ {A = State} (record { predictor = a; index = i }) (record { predictor = b; index = j })
-same a b i j p q = rw (p, q)
-
-key-same : (s t : State) → InRange s → InRange t → key s ≡ key t → s ≡ t
-unfolding key
-key-same s t hs ht e =
-    let i : s.index ≡ t.index = omega (arith, hs.index, ht.index) in
-    same s.predictor t.predictor s.index t.index (raised-same s.predictor t.predictor hs.predictor ht.predictor (omega arith)) i
+use Rattle.search.specs.Search.{mark_of, marks_of, Ran, tie, Beaten}
+use Rattle.search.specs.declared.Mark.{Mark}
+use Rattle.search.specs.declared.Best.{Best}
+use Rattle.search.proofs.Summed.{Summed, over_limit}
 
 module _ (k : Settings) (v : ℕ) (xs : List ℤ) where
-  trial_range : (index n : ℕ) → InRange (trial_to k v xs index n).state
-  unfolding trial_to trial_step
-  trial_range index zero = start_range index
-  trial_range index (suc n) = stepped_range 3 k.variant (trial_to k v xs index n).state _
-
   -- j samples on
   alike : (a b i : ℕ) → (trial_to k v xs a i).state ≡ (trial_to k v xs b i).state → (j : ℕ)
       → ((trial_to k v xs a (j + i)).state ≡ (trial_to k v xs b (j + i)).state)
@@ -47,69 +26,54 @@ module _ (k : Settings) (v : ℕ) (xs : List ℤ) where
   alike a b i e zero = rw zero-add (e, omega arith)
   alike a b i e (suc j) = let h = alike a b i e j in rw (suc-add, h.0) (refl, omega (arith, h.1))
 
--- ---- the loop of a trial that leaves its marks
+  -- ---- the loop of a trial that leaves its marks
 
-module _ (k : Settings) (v : ℕ) (xs : List ℤ) (index n : ℕ) where
-  pub record Traced (i : ℕ) (s : State) (sum : ℕ) (trace : List ℕ) : Type 0 where
-    pub summed : Summed k v xs index n i s sum
+  pub record Traced (index i : ℕ) (s : State) (sum : ℕ) (trace : List Mark) : Type 0 where
+    pub summed : Summed k v xs index i s sum
     pub room : length trace ≡ 63
     pub marked : take i trace ≡ marks_of k v xs index i
 
-  pub traced_none : {s : State} {trace : List ℕ} → Summed k v xs index n 0 s 0 → length trace ≡ 63 → Traced 0 s 0 trace
-  unfolding marks_of tabulate
-  traced_none d h = record { summed = d; room = h; marked = refl }
+  module _ {index : ℕ} where
+    pub traced_none : {s : State} {trace : List Mark} → Summed k v xs index 0 s 0 → length trace ≡ 63 → Traced index 0 s 0 trace
+    unfolding marks_of tabulate
+    traced_none d h = record { summed = d; room = h; marked = refl }
 
-  pub traced_more : {i : ℕ} {s t : State} {sum sum' key' : ℕ} {trace : List ℕ} → Traced i s sum trace → i < 63 → key' ≡ key s
-      → Summed k v xs index n (i + 1) t sum' → Traced (i + 1) t sum' (set trace i (sum * 8388608 + key'))
+    pub traced_more : {i : ℕ} {s t : State} {sum sum' : ℕ} {trace : List Mark} → Traced index i s sum trace → i < 63
+        → Summed k v xs index (i + 1) t sum' → Traced index (i + 1) t sum' (set trace i (record { sum = sum; state = s }))
+    unfolding marks_of
+    traced_more {i} {s} {t} {sum} {sum'} {trace} d h m =
+        record {
+          summed = m;
+          room = rw length-set d.room;
+          marked = fill_next (λ i. mark_of (trial_to k v xs index i)) trace i (record { sum = sum; state = s }) (omega (arith, d.room)) d.marked (rw (d.summed.state, d.summed.total));
+        }
+
+    pub ran : {i : ℕ} {s : State} {sum : ℕ} {trace : List Mark} → length xs ≤ 63 → Traced index i s sum trace → length xs ≤ i
+        → Ran k v xs (record { index = index; sum = sum; marks = trace })
+    ran {i} few d h =
+        let e : i ≡ length xs = omega (arith, d.summed.within) in
+        record { sum = rw e at d.summed.total; small = omega (arith, d.summed.small, d.summed.within); marked = rw e at d.marked }
+
+    -- the sum so far is at most the whole
+    pub stopped : {i sum : ℕ} {s : State} {trace : List Mark} {b : Best} → Traced index i s sum trace → b.sum + tie index b.index ≤ sum
+        → Beaten k v xs index b
+    stopped d h = record { over = omega (arith, over_limit _ _ _ _ d.summed) }
+
+  -- ---- the marks of the best trial
+
+  mark_at : {b : Best} (d : Mark) → Ran k v xs b → (i : ℕ) → i < length xs → get_or b.marks i d ≡ mark_of (trial_to k v xs b.index i)
   unfolding marks_of
-  traced_more {i} {s} {t} {sum} {sum'} {key'} {trace} d h e m =
-      record {
-        summed = m;
-        room = rw length-set d.room;
-        marked =
-            fill_next (λ i. mark_of (trial_to k v xs index i)) trace i (sum * 8388608 + key') (omega (arith, d.room)) d.marked
-            (rw (e, d.summed.state, d.summed.total));
-      }
-
-  -- the sum so far is at most the whole
-  pub stopped : {i sum : ℕ} {s : State} {trace : List ℕ} → Traced i s sum trace → sum ≤ (trial_to k v xs index n).sum
-  stopped d = over_limit _ _ _ _ _ d.summed (omega arith)
+  mark_at {b} d r i h =
+      sym (get_or-take (length xs) b.marks i d h)
+      ∙ ap (λ (l : List Mark). get_or l i d) r.marked
+      ∙ get_d_tabulate (λ j. mark_of (trial_to k v xs b.index j)) (length xs) i d h
 
   -- met at i samples
-  pub met : {limit tie i : ℕ} {marks : List ℕ} {s : State} {sum key' : ℕ} → Rival k v xs index n limit tie marks → Summed k v xs index n i s sum
-      → i < n → key' ≡ key s → key' ≡ get_or marks i 0 % 8388608 → get_or marks i 0 / 8388608 + tie ≤ sum → limit ≤ (trial_to k v xs index n).sum
-  met {i = i} r d h e a b = r.loses i h (rw (← d.state, ← e) a) (rw (← d.total) b)
-
--- ---- the marks of the best trial, for the next
-
--- before the first
-pub no_rival : (k : Settings) (v : ℕ) (xs : List ℤ) (index n tie : ℕ) (marks : List ℕ) → Unmarked n marks → Rival k v xs index n (2 ^ 38 + tie) tie marks
-no_rival k v xs index n tie marks u = record { loses = λ i h a b. over i h b }
-  where
-    over : (i : ℕ) → i < n → get_or marks i 0 / 8388608 + tie ≤ (trial_to k v xs index i).sum → 2 ^ 38 + tie ≤ (trial_to k v xs index n).sum
-    over i h b =
-        let e : n - i + i ≡ n = omega arith in
-        let r = rw e at (rises k v xs index n i (n - i)) in
-        omega (arith, u.high i h)
-
-module _ (k : Settings) (v : ℕ) (xs : List ℤ) (best index n : ℕ) (marks : List ℕ) (m : take n marks ≡ marks_of k v xs best n) where
-  mark_at : (i : ℕ) → i < n → get_or marks i 0 ≡ mark_of (trial_to k v xs best i)
-  unfolding marks_of
-  mark_at i h =
-      sym (get_or-take n marks i 0 h)
-      ∙ ap (λ (l : List ℕ). get_or l i 0) m
-      ∙ get_d_tabulate (λ j. mark_of (trial_to k v xs best j)) n i 0 h
-
-  pub rival : (tie : ℕ) → Rival k v xs index n ((trial_to k v xs best n).sum + tie) tie marks
-  rival tie = record { loses = λ i h a b. go i h (rw (mark_at i h) at a) (rw (mark_at i h) at b) }
-    where
-      go : (i : ℕ) → i < n → key (trial_to k v xs index i).state ≡ mark_of (trial_to k v xs best i) % 8388608
-          → mark_of (trial_to k v xs best i) / 8388608 + tie ≤ (trial_to k v xs index i).sum
-          → (trial_to k v xs best n).sum + tie ≤ (trial_to k v xs index n).sum
-      go i h a b =
-          let s = key_small (trial_to k v xs best i).state (trial_range k v xs best i) in
-          let c : key (trial_to k v xs index i).state ≡ key (trial_to k v xs best i).state = omega arith in
-          let d = key-same (trial_to k v xs index i).state (trial_to k v xs best i).state (trial_range k v xs index i) (trial_range k v xs best i) c in
-          let e : n - i + i ≡ n = omega arith in
-          let w = rw e at (alike k v xs index best i d (n - i)).1 in
-          omega arith
+  pub met : {b : Best} {index i : ℕ} {s : State} {sum : ℕ} (d : Mark) → Ran k v xs b → Summed k v xs index i s sum → i < length xs
+      → (get_or b.marks i d).state ≡ s → (get_or b.marks i d).sum + tie index b.index ≤ sum → Beaten k v xs index b
+  met {b} {index} {i} {s} {sum} d r t h e l =
+      let m = mark_at d r i h in
+      let es : (trial_to k v xs index i).state ≡ (trial_to k v xs b.index i).state = sym t.state ∙ sym e ∙ ap (λ (m : Mark). m.state) m in
+      let f : length xs - i + i ≡ length xs = omega arith in
+      let w = rw f at (alike index b.index i es (length xs - i)).1 in
+      record { over = omega (arith, ap (λ (m : Mark). m.sum) m, t.total, r.sum) }
