@@ -9,10 +9,9 @@ use Rattle.format.specs.Encode.{Trial, trial_to, best_trial}
 use Rattle.format.specs.declared.Settings.{Settings}
 use Rattle.search.proofs.Leading.{trial_start}
 
-pub best_from : (k : Settings) (v : ℕ) (xs : List ℤ) (index n : ℕ) → length xs ≡ n → index ≡ (best_trial k v xs).start
-    → trial_to k v xs index n ≡ best_trial k v xs
+pub best_from : (k : Settings) (v : ℕ) (xs : List ℤ) (index : ℕ) → index ≡ (best_trial k v xs).start → trial_to k v xs index (length xs) ≡ best_trial k v xs
 unfolding best_trial
-best_from k v xs index n s h =
+best_from k v xs index h =
     let l = least_is (λ (t : Trial). t.sum) (λ index. trial_to k v xs index (length xs)) 88 in
     let e = ap (λ (t : Trial). t.start) l.is ∙ trial_start k v xs l.place (length xs) in
-    rw (← s) (ap (λ (j : ℕ). trial_to k v xs j (length xs)) (h ∙ e) ∙ sym l.is)
+    ap (λ (j : ℕ). trial_to k v xs j (length xs)) (h ∙ e) ∙ sym l.is

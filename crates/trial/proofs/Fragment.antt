@@ -1,42 +1,26 @@
 -- A fragment's bytes, of silence and of the best trial. Assumes nothing.
 use mathlib.Core.Path.{◌≡◌, refl, ◌∙◌, ap}
 use mathlib.Core.List.{List, ◌∷◌, map}
-use Prim.Native.Nat.{ℕ, zero, suc, ◌+◌, ◌≤◌, ◌<◌}
-use native.Mathlib.Nat.{le_refl, zero-div, zero-mod}
-use native.Mathlib.Numerals.{add-one}
+use Prim.Native.Nat.{ℕ, zero, suc, ◌+◌, ◌≤◌}
+use native.Mathlib.Nat.{le_refl}
 use native.Mathlib.Omega.{arith}
 use lib.IntN.{ℤ, pos, negsuc, nat_abs}
-use lib.ListN.{length, get_or, take, set, length-set, length-map}
-use lib.Seq.{take-suc-set, take_all}
+use lib.ListN.{length, get_or, replicate, length-map}
 use borrow.Author.Tests.{ne_eqb}
 use Rattle.lists.proofs.ByIndex.{map_at}
 use Rattle.digits.specs.Digits.{number, digits}
-use Rattle.digits.proofs.Laws.{digits_snoc}
 use Rattle.format.specs.Layout.{payload_bytes, fragment_size}
 use Rattle.signed.specs.Signed.{is_neg, with_sign, on_magnitude}
 use Rattle.format.specs.Gain.{pregained, peak, own_volume}
 use Rattle.format.specs.Encode.{best_trial, fragment_bytes, encoded_fragment}
 use Rattle.format.specs.declared.Settings.{Settings}
 
--- ---- the loop that writes zeros: i of them are written
+-- ---- zeros
 
-pub record Zeros (n i : ℕ) (out : List ℕ) : Type 0 where
-  pub whole : length out ≡ n
-  pub done : take i out ≡ digits 8 i 0
-
-pub zeros_none : (out : List ℕ) → Zeros (length out) 0 out
+zeros : (n : ℕ) → replicate n 0 ≡ digits 8 n 0
 unfolding digits
-zeros_none out = record { whole = refl; done = refl }
-
-pub zeros_more : (n i : ℕ) {out : List ℕ} → Zeros n i out → i < n → Zeros n (i + 1) (set out i 0)
-zeros_more n i {out} z l =
-    record {
-      whole = length-set out i 0 ∙ z.whole;
-      done = rw (add-one, take-suc-set out i 0 (omega (arith, z.whole)), z.done, digits_snoc 8 i 0, zero-div, zero-mod);
-    }
-
-pub zeros_all : (n i : ℕ) {out : List ℕ} → Zeros n i out → n ≡ i → out ≡ digits 8 n 0
-zeros_all n i {out} z e = rw (← (take_all i out (omega (arith, z.whole, e))), z.done, e)
+zeros zero = refl
+zeros (suc n) = cc (zeros n)
 
 -- ---- silence
 
@@ -65,11 +49,11 @@ unfolding digits
 two_zeros n = let e : 2 + n ≡ suc (suc n) = omega arith in rw e
 
 module _ (k : Settings) (samples xs : List ℤ) (v : ℕ) (ex : xs ≡ map (pregained k.gain) samples) (ev : v ≡ own_volume xs) where
-  pub silent_bytes : (n : ℕ) {out : List ℕ} → out ≡ digits 8 n 0 → n ≡ fragment_size 3 k.variant → v ≡ 0 → out ≡ encoded_fragment k samples
+  pub silent_bytes : (n : ℕ) {out : List ℕ} → out ≡ replicate n 0 → n ≡ fragment_size 3 k.variant → v ≡ 0 → out ≡ encoded_fragment k samples
   unfolding encoded_fragment fragment_bytes digits number
   silent_bytes n eo en e0 =
       let z : own_volume xs ≡ 0 = rw (← ev) e0 in
-      rw (eo, en, ← ex, z) (two_zeros (payload_bytes k.variant))
+      rw (eo, zeros, en, ← ex, z) (two_zeros (payload_bytes k.variant))
 
   pub best_bytes : {out : List ℕ} → out ≡ fragment_bytes k.variant v (best_trial k v xs) → (v ≡ 0 → ⊥) → out ≡ encoded_fragment k samples
   unfolding encoded_fragment

@@ -1,4 +1,3 @@
-pub mod Mapping
 pub mod Tried
 pub mod Bested
 pub mod Front

