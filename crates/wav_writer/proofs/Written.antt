@@ -1,28 +1,23 @@
 -- What the writer promises, by the ways in which it returns. Assumes nothing.
 use mathlib.Core.Path.{◌≡◌, refl, sym, ◌∙◌, ap}
-use mathlib.Core.Bool.{true}
 use mathlib.Core.List.{List, ◌++◌, append_assoc}
-use Prim.Native.Nat.{ℕ, ◌+◌, ◌*◌, ◌-◌, ◌≤◌}
-use native.Mathlib.Omega.{arith}
-use native.Mathlib.Nat.{mul-le-mul_left}
+use Prim.Native.Nat.{ℕ, ◌+◌, ◌*◌, ◌-◌}
 use lib.IntN.{ℤ}
 use lib.ListN.{length, take, drop, length-append}
 use lib.Seq.{take_at, drop_at, drop-drop, take-length}
+use Rattle.std.specs.Prelude.{Option, None}
+use Rattle.std.specs.Option.{ok_or}
+use Rattle.std.specs.Result.{IsErrAnd}
+use Rattle.std.specs.declared.result.Result.{Result}
 use Rattle.std.specs.declared.result.Result.TheVariants.{Ok, Err}
 use Rattle.outcome.specs.Outcome.{result, on_result, output_after}
 use Rattle.outcome.proofs.Laws.{on_result_lem, output_result}
 use Rattle.digits.specs.Digits.{digits}
 use Rattle.digits.proofs.Laws.{tail_all, tail_put}
-use Rattle.wav_format.specs.Wave.{one_or_two}
 use Rattle.wav_format.specs.Answers.{refusal}
 use Rattle.wav_format.specs.declared.WaveError.{WaveError}
-use Rattle.wav_format.proofs.Steps.{one_or_two_is}
 use Rattle.wav_writer.specs.Writer.{wave_header, sample_bytes, wave_bytes, write_call, AsWritten}
 use Rattle.wav_writer.proofs.SampleLoop.{length_samples}
-
--- a byte rate fits 64 bits
-pub rate_few : (channels rate : ℕ) → one_or_two channels ≡ true → rate * (channels * 2) ≤ rate * 4
-rate_few channels rate e = let h = one_or_two_is channels e in mul-le-mul_left {m = channels * 2} {n = 4} rate (omega arith)
 
 pub length-header : (channels rate size : ℕ) → length (wave_header channels rate size) ≡ 44
 unfolding wave_header digits
@@ -36,6 +31,12 @@ module _ (channels rate : ℕ) (samples : List ℤ) (out : List ℕ) where
   pub as_refused : (e : WaveError) → refusal e ≡ write_call channels rate samples (length out) → AsWritten channels rate samples out (Err e) out
   unfolding on_result output_after
   as_refused e q = record { answered = rw (← q); output_left = rw (← q) }
+
+  -- the same where a `?` passes it on, for a value that is not there
+  pub as_lacking : {B : Type 0} (r : Result ℕ WaveError) (o : Option B) (e f : WaveError) → IsErrAnd r (λ g. g ≡ e) → Err e ≡ ok_or o f → o ≡ None
+      → refusal f ≡ write_call channels rate samples (length out) → AsWritten channels rate samples out r out
+  as_lacking (Ok n) o e f h v none q = absurd h
+  as_lacking (Err g) o e f h v none q = let same = rw none at v in let is : g ≡ f = cc in as_refused g (rw is q)
 
   abbrev size : ℕ
   size = 2 * length samples

@@ -7,13 +7,13 @@ ghost use Rattle.wav_writer.specs.Writer.{wave_header, sample_bytes, AsWritten};
 
 use wav_format::WaveError;
 
-// Internal: the 44 bytes before `size` bytes of samples: those that every file has, and the fields put into them.
+// Internal: the 44 bytes before `size` bytes of samples: those that every file has, fmt's size 16, encoding 1 and 16 bits among them, and
+// the fields that differ.
 #[tactic(auto, unfolding(crate::specs::Writer::wave_header, digits::specs::Digits::digits))]
-fn wave_header(channels: u8, rate: u32, byte_rate: u32, size: u32) -> [u8; 44]
-    requires { (channels ≤ 2) × (size + 36 ≤ 4294967295) × (byte_rate ≡ rate * frame_bytes channels) }
+fn wave_header(channels: u8, rate: u32, byte_rate: u32, riff: u32, size: u32) -> [u8; 44]
+    requires { (channels ≤ 2) × (byte_rate ≡ rate * frame_bytes channels) × (riff ≡ size + 36) }
     ensures { result ≡ wave_header channels rate size }
 {
-    let riff = size + 36;
     let align = channels * 2;
     let mut header =
         *b"RIFF\0\0\0\0WAVEfmt \x10\0\0\0\x01\0\0\0\0\0\0\0\0\0\0\0\0\0\x10\0data\0\0\0\0";
@@ -50,22 +50,18 @@ pub fn write_pcm16_wave(
     if !wav_format::one_or_two(channels as u16) {
         return Err(WaveError::WriterChannels);
     }
-    let size = 2 * samples.len();
-    if 4294967295 < size {
+    let Ok(size) = u32::try_from(2 * samples.len()) else {
         return Err(WaveError::DataSize);
-    }
-    if 4294967295 < size + 36 {
-        return Err(WaveError::RiffSize);
-    }
-    let byte_rate = (rate as u64) * ((channels as u64) * 2);
-    if 4294967295 < byte_rate {
-        return Err(WaveError::WriterByteRate);
-    }
-    let needed = 44 + size;
+    };
+    let riff = size.checked_add(36).ok_or(WaveError::RiffSize)?;
+    let byte_rate = rate
+        .checked_mul(channels as u32 * 2)
+        .ok_or(WaveError::WriterByteRate)?;
+    let needed = 44 + size as usize;
     if out.len() < needed {
         return Err(WaveError::OutputTooShort(needed));
     }
-    let header = wave_header(channels, rate, byte_rate as u32, size as u32);
+    let header = wave_header(channels, rate, byte_rate, riff, size);
     out[..44].copy_from_slice(&header);
     put_samples(samples, &mut out[44..]);
     Ok(needed)
