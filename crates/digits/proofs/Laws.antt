@@ -248,11 +248,6 @@ number-take w (d ∷ ds) h (suc m) =
     ∙ sym (turn (2 ^ w) d (number w ds % 2 ^ (w * m)))
     ∙ ap (λ (x : ℕ). d + 2 ^ w * x) (number-take w ds (λ i. h (suc i)) m)
 
--- the number of the m digits from place k on is the bits there: a part's own number, and a wider digit
-pub number_group : (w : ℕ) (ds : List ℕ) → Small w ds → (m k : ℕ) → bits_at (w * m) (w * k) (number w ds) ≡ number w (take m (drop k ds))
-number_group w ds h m k =
-    ap (λ (y : ℕ). y % 2 ^ (w * m)) (number-drop w ds h k) ∙ number-take w (drop k ds) (small_drop w ds h k) m
-
 -- the number of the n + 1 digits from a place on
 pub number-part : (w n : ℕ) (ds : List ℕ) (at : ℕ) → at < length ds
     → number w (take (suc n) (drop at ds)) ≡ get_or ds at 0 + 2 ^ w * number w (take n (drop (suc at) ds))

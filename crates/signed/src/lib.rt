@@ -11,28 +11,25 @@ ghost use Rattle.signed.specs.Signed.{is_neg, with_sign, clamp16, clamp_to, rais
 pub fn magnitude(x: i32) -> u32
     ensures { result ≡ nat_abs x }
 {
-    if x < 0 {
-        let y = 0 - (x + 1);
-        y as u32 + 1
-    } else {
-        x as u32
-    }
+    x.unsigned_abs()
 }
 
 // Whether x is below 0.
+#[tactic(auto, using(crate::proofs::Laws::is_neg_is))]
 pub fn is_negative(x: i32) -> bool
     ensures { result ≡ is_neg x }
 {
-    x < 0
+    x.is_negative()
 }
 
 // Internal: the number with magnitude m, negated where `negative`.
+#[tactic(auto, unfolding(crate::specs::Signed::with_sign))]
 pub fn with_sign(negative: bool, m: u32) -> i32
     requires { m < 2 ^ 31 }
     ensures { result ≡ with_sign negative m }
 {
     let x = m as i32;
-    if negative { 0 - x } else { x }
+    if negative { -x } else { x }
 }
 
 // Internal: the number with magnitude m and the sign of x.
@@ -44,28 +41,20 @@ pub fn sign_like(x: i32, m: u32) -> i32
 }
 
 // Clamped to -32768..=32767.
+#[tactic(auto, using(crate::proofs::Laws::clamp16_is))]
 pub fn clamp16(x: i32) -> i32
     ensures { result ≡ clamp16 x }
 {
-    if x < -32768 {
-        -32768
-    } else if 32767 < x {
-        32767
-    } else {
-        x
-    }
+    x.clamp(-32768, 32767)
 }
 
 // Internal: clamped to 0..=top.
+#[tactic(auto, using(crate::proofs::Laws::clamp_to_is, crate::proofs::Laws::up32))]
 pub fn clamp_to(x: i32, top: u32) -> u32
     requires { top < 2 ^ 31 }
     ensures { result ≡ clamp_to top x }
 {
-    if x < 0 {
-        return 0;
-    }
-    let y = x as u32;
-    if top < y { top } else { y }
+    x.clamp(0, top as i32) as u32
 }
 
 // Internal: the distance of two numbers.
@@ -73,21 +62,21 @@ pub fn distance(x: i32, y: i32) -> u32
     requires { nat_abs x + nat_abs y < 2 ^ 31 }
     ensures { result ≡ nat_abs (x -ℤ y) }
 {
-    magnitude(x - y)
+    x.abs_diff(y)
 }
 
 // The distance of two unsigned numbers.
 pub fn gap(a: u32, b: u32) -> u32
     ensures { result ≡ a - b + (b - a) }
 {
-    if a < b { b - a } else { a - b }
+    a.abs_diff(b)
 }
 
 // a - b, and 0 where that is below 0.
 pub fn less(a: u32, b: u32) -> u32
     ensures { result ≡ a - b }
 {
-    if b < a { a - b } else { 0 }
+    a.saturating_sub(b)
 }
 
 // Internal: the sum, clamped to -32768..=32767.
@@ -107,6 +96,7 @@ pub fn add_clamp_to(x: u32, y: i32, top: u32) -> u32
 }
 
 // Internal: a number of 16 bits, raised to 0..=65535.
+#[tactic(auto, using(crate::proofs::Raised::raise_is, crate::proofs::Raised::raised_high))]
 pub fn raise(x: i32) -> u32
     requires { mag x ≤ 32767 }
     ensures { (result ≡ raised x) × (result ≤ 65535) }
@@ -123,6 +113,7 @@ pub fn lower(u: u32) -> i32
 }
 
 // Internal: how far a 16-bit number lies below 32767.
+#[tactic(auto, using(crate::proofs::Laws::depth_is, crate::proofs::Laws::depth_le))]
 pub fn depth(x: i32) -> u32
     requires { mag x ≤ 32767 }
     ensures { (result ≡ depth x) × (result ≤ 65535) }
@@ -139,42 +130,27 @@ pub fn at_depth(depth: u32) -> i16
 }
 
 // Internal: the 16-bit number with magnitude m, negated where `negative`, by its depth below 32767.
+#[tactic(auto, using(crate::proofs::Twos::negated16), unfolding(crate::specs::Signed::with_sign))]
 pub fn with_sign16(negative: bool, m: u16) -> i16
     requires { mag (with_sign negative m) ≤ 32767 }
     ensures { result ≡ with_sign negative m }
 {
-    let depth = if negative { 32767 + m } else { 32767 - m };
-    at_depth(depth as u32)
+    let x = m.cast_signed();
+    if negative { x.wrapping_neg() } else { x }
 }
 
 // The sample that two bytes state, in two's complement.
+#[tactic(auto, using(crate::proofs::Twos::signed_of))]
 pub fn sample_of(low: u8, high: u8) -> i16
     ensures { result ≡ of_twos (low + 256 * high) }
 {
-    let n = (low as u16) + 256 * (high as u16);
-    if n < 32768 {
-        n as i16
-    } else {
-        -1 - ((65535 - n) as i16)
-    }
-}
-
-// The 16 bits of a sample.
-fn sample_bits(sample: i16) -> u16
-    ensures { result ≡ to_twos sample }
-{
-    if sample < 0 {
-        let below = -1 - sample;
-        65535 - (below as u16)
-    } else {
-        sample as u16
-    }
+    i16::from_le_bytes([low, high])
 }
 
 // The two bytes of a sample, in two's complement, the low byte first.
+#[tactic(auto, using(crate::proofs::Twos::bits_of), unfolding(digits::specs::Digits::digits))]
 pub fn sample_bytes(sample: i16) -> [u8; 2]
     ensures { result ≡ stored 2 (to_twos sample) }
 {
-    let n = sample_bits(sample);
-    [(n % 256) as u8, (n / 256) as u8]
+    sample.to_le_bytes()
 }
