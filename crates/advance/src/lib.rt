@@ -115,6 +115,7 @@ fn l_landed(x: u32, p: u32, twice: u32, offset: u32) -> u32
 }
 
 // What the encoder needs at each sample: the settings, and the sizes of L or L+ at each index, a row of four for each; of H zeros.
+#[derive(Drop)]
 pub struct Coder {
     pub settings: Settings,
     sizes: [u32; 356],

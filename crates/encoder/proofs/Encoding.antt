@@ -9,11 +9,12 @@ use lib.IntN.{ℤ}
 use native.Mathlib.Omega.{arith}
 use lib.ListN.{length, take, drop, length-append, length-drop}
 use lib.Seq.{take_at, drop_at, drop-drop}
+use Rattle.std.specs.declared.result.Result.TheVariants.{Ok, Err}
 use Rattle.outcome.specs.Outcome.{Outcome, result, refuse_if, on_result, output_after}
 use Rattle.outcome.proofs.Laws.{met, clear, pass, on_result_lem, output_result}
 use Rattle.format.specs.Layout.{encoder_version, channels_fit, fragment_size, header_bytes, frames, stream_length}
 use Rattle.format.specs.Encode.{header_written, fragment_for, encoded, too_many, encode_call}
-use Rattle.format.specs.Answers.{number_of, values_of, refusal, encoded_of, AsEncoded}
+use Rattle.format.specs.Answers.{number_of, values_of, refusal, AsEncoded}
 use Rattle.format.proofs.Sizes.{length-header}
 use Rattle.format.proofs.Encoder.{length_encoded}
 use Rattle.encoder.specs.Loops.{put_after}
@@ -21,19 +22,18 @@ use Rattle.format.specs.declared.Header.{Header}
 use Rattle.format.specs.declared.Settings.{Settings}
 use Rattle.format.specs.declared.Error.{Error}
 use Rattle.format.specs.declared.Error.TheVariants as Errors
-use Rattle.format.specs.declared.Encoded.TheVariants as E
 
 module _ (k : Settings) (pcm : List ℤ) (channels rate : ℕ) (out : List ℕ) where
-  pub as_refused : (e : Error) → refusal e ≡ encode_call k pcm channels rate (length out) → AsEncoded k pcm channels rate out (E.Refused e) out
-  unfolding encoded_of on_result output_after
+  pub as_refused : (e : Error) → refusal e ≡ encode_call k pcm channels rate (length out) → AsEncoded k pcm channels rate out (Err e) out
+  unfolding on_result output_after
   as_refused e q = record { answered = rw (← q); output_left = rw (← q) }
 
   -- the header is written, and the fragments behind it
   pub as_written : (n : ℕ) (h : Header) (headed r : List ℕ) → result (encoded k pcm channels rate) ≡ encode_call k pcm channels rate (length out)
       → h ≡ header_written k pcm channels rate → n ≡ stream_length h → headed ≡ header_bytes h ++ drop 16 out
       → r ≡ put_after (take 16 headed) 16 (fragment_for k pcm channels) (fragment_size encoder_version k.variant) headed (frames (header_written k pcm channels rate) * channels)
-      → AsEncoded k pcm channels rate out (E.Written (record { length = n })) r
-  unfolding encoded_of put_after encoded
+      → AsEncoded k pcm channels rate out (Ok n) r
+  unfolding put_after encoded
   as_written n h headed r q eh en ed er =
       let w : Header = header_written k pcm channels rate in
       let tail : ℕ = frames w * channels * fragment_size encoder_version k.variant in

@@ -1,10 +1,10 @@
 -- `encoder::encode` meets its contract. Assumes nothing.
-use mathlib.Core.Path.{ap, ◌∙◌}
+use mathlib.Core.Path.{refl}
 use native.Mathlib.Omega.{arith}
 use Rattle.format.proofs.Sizes.{channels_few}
 use Rattle.format.specs.Answers.{number_of, values_of}
 use Rattle.format.specs.Encode.{header_written, too_many, encode_call}
-use Rattle.format.specs.Layout.{frames, stream_length}
+use Rattle.format.specs.Layout.{frames}
 use Rattle.format.specs.declared.Error.TheVariants as E
 use Rattle.outcome.proofs.Flags.{via}
 use Rattle.outcome.proofs.Laws.{checks}
@@ -35,14 +35,14 @@ returns-then-samples-gt4294967295 c = as_refused _ _ _ _ _ E.TooManySamples (sea
 
 pub returns-then-out-needed : goal.returns-then-out-needed
 unfolding header_written
-returns-then-out-needed c = as_refused _ _ _ _ _ (E.OutputTooShort _) (too_short c.args.settings _ _ _ _ (via _ _ _ c.channels_fit.ensures c.if-not-channels_fit.false) c.if-rate-eq0.false c.if-pcm-count-ne0.false c.if-samples-gt4294967295.false _ (c.stream_length-needed.ensures ∙ ap stream_length c.header_for-h.ensures) c.if-out-needed.true)
+returns-then-out-needed c = as_refused _ _ _ _ _ (E.OutputTooShort _) (too_short c.args.settings _ _ _ _ (via _ _ _ c.channels_fit.ensures c.if-not-channels_fit.false) c.if-rate-eq0.false c.if-pcm-count-ne0.false c.if-samples-gt4294967295.false _ (c.stream_length-needed.ensures) c.if-out-needed.true)
 
-pub encode_fragments-requires : goal.encode_fragments-requires
+pub put_fragments-requires : goal.put_fragments-requires
 unfolding frames
-encode_fragments-requires c =
+put_fragments-requires c =
     let fit = channels_few _ _ (via _ _ _ c.channels_fit.ensures c.if-not-channels_fit.false) in
-    (fit.0, omega arith, c.if-samples-gt4294967295.false, rw c.header_for-h.ensures at (headed_length c.header_for-h.result c.args.out.now _ _ c.put_header.ensures c.stream_length-needed.ensures c.if-out-needed.false))
+    (fit.0, omega arith, c.if-samples-gt4294967295.false, rw c.new.ensures (headed_length _ c.args.out.now _ _ c.put_header.ensures c.stream_length-needed.ensures c.if-out-needed.false))
 
 pub returns : goal.returns
 unfolding header_written frames
-returns c = as_written _ _ _ _ _ _ _ _ _ (long_enough c.args.settings _ _ _ _ (via _ _ _ c.channels_fit.ensures c.if-not-channels_fit.false) c.if-rate-eq0.false c.if-pcm-count-ne0.false c.if-samples-gt4294967295.false _ (c.stream_length-needed.ensures ∙ ap stream_length c.header_for-h.ensures) c.if-out-needed.false) c.header_for-h.ensures c.stream_length-needed.ensures c.put_header.ensures c.encode_fragments.ensures
+returns c = as_written _ _ _ _ _ _ _ _ _ (long_enough c.args.settings _ _ _ _ (via _ _ _ c.channels_fit.ensures c.if-not-channels_fit.false) c.if-rate-eq0.false c.if-pcm-count-ne0.false c.if-samples-gt4294967295.false _ (c.stream_length-needed.ensures) c.if-out-needed.false) refl c.stream_length-needed.ensures c.put_header.ensures (rw c.new.ensures at c.put_fragments.ensures)

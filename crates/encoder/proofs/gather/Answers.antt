@@ -19,7 +19,7 @@ spot c = place_in c.args.first c.loop-w.w c.args.n c.args.channels c.args.channe
 
 pub loop-w-init : goal.loop-w-init
 unfolding tabulate
-loop-w-init c = (search rules, refl, refl)
+loop-w-init c = (refl, refl)
 
 pub overflow_add-j : goal.overflow_add-j
 overflow_add-j c = let p = spot (goal.at.overflow_add-j c).In-loop-w in search rules
@@ -40,12 +40,11 @@ pub loop-w-preserved : goal.loop-w-preserved
 loop-w-preserved c =
     let p = spot (goal.at.loop-w-preserved c).In-loop-w in
     let e : SFits w16 (get_or c.args.pcm.now ((c.args.first + c.loop-w.w) * c.args.channels + c.args.channel) (pos 0)) = search rules in (
-      search rules,
-      simp length-set c.loop-w.invariant.1,
-      fill_next _ _ _ _ (omega (arith, c.loop-w.invariant.1)) c.loop-w.invariant.2 (back16 _ e.sfits),
+      simp length-set c.loop-w.invariant.0,
+      fill_next _ _ _ _ (omega (arith, c.loop-w.invariant.0)) c.loop-w.invariant.1 (back16 _ e.sfits),
     )
 
 pub returns : goal.returns
 returns c =
     let e : c.loop-w.w ≡ c.args.n = omega arith in
-    rw (← e) c.loop-w.invariant.2
+    rw (← e) c.loop-w.invariant.1

@@ -1,6 +1,6 @@
 -- `encoder::gather` meets its contract. Assumes nothing.
 use mathlib.Core.Path.{◌≡◌}
-use Prim.Native.Nat.{◌+◌, ◌*◌, ◌-◌, ◌≤◌}
+use Prim.Native.Nat.{◌+◌, ◌*◌}
 use lib.IntN.{pos}
 use lib.ListN.{length, take, get_or}
 use Rattle.lists.specs.Lists.{tabulate}
@@ -8,7 +8,4 @@ use Rattle.encoder.proofs.gather.Given as goal
 
 abbrev pub invariant-loop-w : goal.invariant-loop-w
 invariant-loop-w l =
-    (l.w ≤ l.n) × (length l.r ≡ 63) × (take l.w l.r ≡ tabulate (λ k. get_or l.pcm ((l.first + k) * l.channels + l.channel) (pos 0)) l.w)
-
-abbrev pub decreases-loop-w : goal.decreases-loop-w
-decreases-loop-w l = l.n - l.w
+    (length l.r ≡ 63) × (take l.w l.r ≡ tabulate (λ k. get_or l.pcm ((l.first + k) * l.channels + l.channel) (pos 0)) l.w)

@@ -6,4 +6,4 @@ use Rattle.encoder.proofs.header_bytes.Goals as goal
 
 pub returns : goal.returns
 unfolding header_bytes digits
-returns c = rw c.byte-kind.ensures refl
+returns c = rw (c.put_le-2.ensures, c.put_le.ensures, c.from.ensures) refl
