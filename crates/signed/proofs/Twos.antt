@@ -1,17 +1,15 @@
 -- Two's complement in 16 bits: it is std's, and its two directions undo each other. Assumes nothing.
-use Prim.Native.Nat.{ℕ, zero, suc, ◌-◌, ◌%◌, ◌<◌, ◌≤◌}
-use native.Mathlib.Nat.{mod-eq_of_lt}
+use Prim.Native.Nat.{ℕ, ◌<◌, ◌≤◌}
 use native.Mathlib.Omega.{arith}
 use mathlib.Core.Path.{◌≡◌, refl}
-use mathlib.Core.Bool.{true}
 use lib.IntN.{ℤ, pos, negsuc}
 use lib.Signed.{mag}
 use mir.Syntax.{w16}
 use mir.Val.{to_z, of_z}
-use mir.Facts.{of_z-to_z, to_z-neg}
+use mir.Facts.{of_z-to_z}
 use Rattle.std.proofs.lemmas.Int.{ints}
 use Rattle.std.proofs.lemmas.Bool.Decides.{nat_tests}
-use Rattle.signed.specs.Signed.{with_sign, of_twos, to_twos}
+use Rattle.signed.specs.Signed.{of_twos, to_twos}
 
 -- std's readings of 16 bits
 pub signed_of : (n : ℕ) → to_z w16 n ≡ of_twos n
@@ -34,9 +32,3 @@ pub to_lt : (z : ℤ) → mag z ≤ 32767 → to_twos z < 65536
 unfolding to_twos
 to_lt (pos n) h = omega arith
 to_lt (negsuc n) h = omega arith
-
--- `wrapping_neg` of the 16 bits of a magnitude
-pub negated16 : (m : ℕ) → m ≤ 32768 → to_z w16 ((65536 - m) % 65536) ≡ with_sign true m
-unfolding with_sign
-negated16 zero h = refl
-negated16 (suc k) h = rw (mod-eq_of_lt {n = 65536 - suc k} {m = 65536} (omega arith)) (to_z-neg w16 k (omega arith))

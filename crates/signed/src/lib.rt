@@ -32,6 +32,14 @@ pub fn with_sign(negative: bool, m: u32) -> i32
     if negative { -x } else { x }
 }
 
+// Internal: the same in 16 bits.
+pub fn with_sign16(negative: bool, m: u16) -> i16
+    requires { mag (with_sign negative m) ≤ 32767 }
+    ensures { result ≡ with_sign negative m }
+{
+    with_sign(negative, m as u32) as i16
+}
+
 // Internal: the number with magnitude m and the sign of x.
 pub fn sign_like(x: i32, m: u32) -> i32
     requires { m < 2 ^ 31 }
@@ -46,15 +54,6 @@ pub fn clamp16(x: i32) -> i32
     ensures { result ≡ clamp16 x }
 {
     x.clamp(-32768, 32767)
-}
-
-// Internal: clamped to 0..=top.
-#[tactic(auto, using(crate::proofs::Laws::clamp_to_is, crate::proofs::Laws::up32))]
-pub fn clamp_to(x: i32, top: u32) -> u32
-    requires { top < 2 ^ 31 }
-    ensures { result ≡ clamp_to top x }
-{
-    x.clamp(0, top as i32) as u32
 }
 
 // Internal: the distance of two numbers.
@@ -88,11 +87,12 @@ pub fn add_clamp16(x: i32, y: i32) -> i32
 }
 
 // Internal: the sum, clamped to 0..=top.
+#[tactic(auto, using(crate::proofs::Laws::clamp_to_is, crate::proofs::Laws::up32))]
 pub fn add_clamp_to(x: u32, y: i32, top: u32) -> u32
     requires { (x + nat_abs y < 2 ^ 31) × (top < 2 ^ 31) }
     ensures { result ≡ clamp_to top (pos x +ℤ y) }
 {
-    clamp_to(x as i32 + y, top)
+    (x as i32 + y).clamp(0, top as i32) as u32
 }
 
 // Internal: a number of 16 bits, raised to 0..=65535.
@@ -127,16 +127,6 @@ pub fn at_depth(depth: u32) -> i16
     ensures { result ≡ pos 32767 -ℤ pos depth }
 {
     (32767 - (depth as i32)) as i16
-}
-
-// Internal: the 16-bit number with magnitude m, negated where `negative`, by its depth below 32767.
-#[tactic(auto, using(crate::proofs::Twos::negated16), unfolding(crate::specs::Signed::with_sign))]
-pub fn with_sign16(negative: bool, m: u16) -> i16
-    requires { mag (with_sign negative m) ≤ 32767 }
-    ensures { result ≡ with_sign negative m }
-{
-    let x = m.cast_signed();
-    if negative { x.wrapping_neg() } else { x }
 }
 
 // The sample that two bytes state, in two's complement.
