@@ -18,7 +18,7 @@ use outcome::{Refusal, Values};
 use wav_format::Wave;
 
 // A count, or a refusal: 0 and how many bytes or samples were written; or the number in 01's table and its returned numbers, 0 where
-// there are none.
+// there are none. These structs are laid out for C, which has no Result: the refusal stands as a number.
 #[repr(C)]
 #[derive(Clone, Copy)]
 pub struct Answer {
@@ -65,6 +65,7 @@ pub struct FragmentAnswer {
 // ---- the answers of the rooms below, as these structs
 
 // A refusal.
+#[tactic(auto, unfolding(crate::specs::Answers::answer_of))]
 fn refused<E: Refusal>(error: E) -> Answer
     ensures { result ≡ answer_of (refused (E.number_of error) (E.values_of error)) }
 {
@@ -91,6 +92,7 @@ fn refused<E: Refusal>(error: E) -> Answer
 impl<E: Refusal> From<Result<usize, E>> for Answer {
     ghost from_gives = { λ given answer. answer ≡ answer_of (outcome_of E.number_of E.values_of given) };
 
+    #[tactic(auto, unfolding(crate::specs::Answers::answer_of))]
     fn from(given: Result<usize, E>) -> Answer {
         match given {
             Ok(count) => Answer {
@@ -106,18 +108,22 @@ impl<E: Refusal> From<Result<usize, E>> for Answer {
 impl<E: Refusal> From<Result<Header, E>> for HeaderAnswer {
     ghost from_gives = { λ given answer. answer ≡ header_answer_of (outcome_of E.number_of E.values_of given) };
 
+    #[tactic(auto, unfolding(crate::specs::Answers::answer_of, crate::specs::Answers::header_answer_of))]
     fn from(given: Result<Header, E>) -> HeaderAnswer {
         match given {
-            Ok(header) => HeaderAnswer {
-                refusal: 0,
-                first: 0,
-                second: 0,
-                version: header.version,
-                variant: u8::from(header.variant),
-                channels: header.channels,
-                rate: header.rate,
-                samples: header.samples,
-            },
+            Ok(header) => {
+                let variant = u8::from(header.variant);
+                HeaderAnswer {
+                    refusal: 0,
+                    first: 0,
+                    second: 0,
+                    version: header.version,
+                    variant,
+                    channels: header.channels,
+                    rate: header.rate,
+                    samples: header.samples,
+                }
+            }
             Err(error) => {
                 let answer = refused(error);
                 HeaderAnswer {
@@ -138,6 +144,7 @@ impl<E: Refusal> From<Result<Header, E>> for HeaderAnswer {
 impl<E: Refusal> From<Result<Wave, E>> for WaveAnswer {
     ghost from_gives = { λ given answer. answer ≡ wave_answer_of (outcome_of E.number_of E.values_of given) };
 
+    #[tactic(auto, unfolding(crate::specs::Answers::wave_answer_of))]
     fn from(given: Result<Wave, E>) -> WaveAnswer {
         match given {
             Ok(wave) => WaveAnswer {

@@ -1,5 +1,5 @@
 // The calls of postlapse for C: the archive libpostlapse.a has one export for each, with the same promise. include/postlapse.h
-// declares them.
+// declares them. Each is the twin of a call of postlapse: an archive for C exports only functions of its own crate.
 #![tactic(auto)]
 
 ghost use Rattle.std.specs.Prelude.{◌≡◌, length};
