@@ -82,22 +82,6 @@ pub fn unused_bits_zero(payload: &[u8], used: usize) -> bool
     after.iter().all(|&byte| byte == 0) && at_or_zero(payload, k) / pow2(used % 8) == 0
 }
 
-// Internal: the little-endian number in the two bytes from `at` on.
-pub fn le16(s: &[u8], at: usize) -> u32
-    requires { at + 2 ≤ length s.now }
-    ensures { (result ≡ field 2 at s.now) × (result < 65536) }
-{
-    s[at] as u32 + 256 * (s[at + 1] as u32)
-}
-
-// Internal: the little-endian number in the four bytes from `at` on.
-pub fn le32(s: &[u8], at: usize) -> u32
-    requires { at + 4 ≤ length s.now }
-    ensures { result ≡ field 4 at s.now }
-{
-    le16(s, at) + 65536 * le16(s, at + 2)
-}
-
 // Internal: the little-endian number in the N bytes from `at` on.
 pub fn le<const N: usize>(s: &[u8], at: usize) -> u64
     requires { (N ≤ 8) × (at + N ≤ length s.now) }

@@ -98,6 +98,16 @@ pub struct Coding {
 }
 
 impl Coding {
+    // How the encoder codes a variant.
+    pub fn written(variant: Variant) -> Coding
+        ensures { result ≡ record { version = 3; variant = variant } }
+    {
+        Coding {
+            version: VERSION,
+            variant,
+        }
+    }
+
     // Whether each fragment starts anew, at predictor 0 and a stored index.
     pub fn starts_anew(self) -> bool
         ensures { result ≡ anew self.version }

@@ -7,21 +7,6 @@ ghost use Rattle.std.specs.Int.Signed.{mag};
 ghost use Rattle.digits.specs.Digits.{stored};
 ghost use Rattle.signed.specs.Signed.{is_neg, with_sign, clamp16, clamp_to, raised, depth, of_twos, to_twos};
 
-// The magnitude, also of the least number.
-pub fn magnitude(x: i32) -> u32
-    ensures { result ≡ nat_abs x }
-{
-    x.unsigned_abs()
-}
-
-// Whether x is below 0.
-#[tactic(auto, using(crate::proofs::Laws::is_neg_is))]
-pub fn is_negative(x: i32) -> bool
-    ensures { result ≡ is_neg x }
-{
-    x.is_negative()
-}
-
 // Internal: the number with magnitude m, negated where `negative`.
 #[tactic(auto, unfolding(crate::specs::Signed::with_sign))]
 pub fn with_sign(negative: bool, m: u32) -> i32
@@ -41,11 +26,12 @@ pub fn with_sign16(negative: bool, m: u16) -> i16
 }
 
 // Internal: the number with magnitude m and the sign of x.
+#[tactic(auto, using(crate::proofs::Laws::is_neg_is))]
 pub fn sign_like(x: i32, m: u32) -> i32
     requires { m < 2 ^ 31 }
     ensures { result ≡ with_sign (is_neg x) m }
 {
-    with_sign(is_negative(x), m)
+    with_sign(x.is_negative(), m)
 }
 
 // Clamped to -32768..=32767.
@@ -54,28 +40,6 @@ pub fn clamp16(x: i32) -> i32
     ensures { result ≡ clamp16 x }
 {
     x.clamp(-32768, 32767)
-}
-
-// Internal: the distance of two numbers.
-pub fn distance(x: i32, y: i32) -> u32
-    requires { nat_abs x + nat_abs y < 2 ^ 31 }
-    ensures { result ≡ nat_abs (x -ℤ y) }
-{
-    x.abs_diff(y)
-}
-
-// The distance of two unsigned numbers.
-pub fn gap(a: u32, b: u32) -> u32
-    ensures { result ≡ a - b + (b - a) }
-{
-    a.abs_diff(b)
-}
-
-// a - b, and 0 where that is below 0.
-pub fn less(a: u32, b: u32) -> u32
-    ensures { result ≡ a - b }
-{
-    a.saturating_sub(b)
 }
 
 // Internal: the sum, clamped to -32768..=32767.
