@@ -2,12 +2,15 @@
 use mathlib.Core.Path.{◌≡◌, refl, sym, ap, ◌∙◌}
 use mathlib.Core.Bool.{true}
 use mathlib.Core.List.{List}
-use Prim.Native.Nat.{ℕ, ◌/◌, ◌%◌, ◌≤◌}
+use Prim.Native.Nat.{ℕ, ◌/◌, ◌%◌, ◌≤◌, ◌<◌}
 use native.Mathlib.Nat.{div-le_self}
 use native.Mathlib.Omega.{arith}
 use lib.Dec.{T, eqb}
 use lib.IntN.{ℤ}
-use lib.ListN.{length, length-take, length-drop}
+use lib.ListN.{length, take, length-take, length-drop}
+use lib.Seq.{take_all}
+use native.Mathlib.Decide.{dec_lt}
+use mathlib.Core.Logic.{inr}
 use borrow.Author.Tests.{le-ltb, eq-eqb, eqb-true}
 use Rattle.outcome.specs.Outcome.{result, Refusing}
 use Rattle.outcome.proofs.Flags.{either_elim}
@@ -21,7 +24,9 @@ use Rattle.wav_format.specs.declared.Wave.{Wave}
 use Rattle.wav_format.proofs.Plain.{plain, PlainRefusal, plain_refusals}
 use Rattle.wav_format.proofs.Within.{samples_within}
 use Rattle.wav_samples.proofs.Samples.{length_samples}
-use Rattle.commands.specs.Commands.{encode_whole, encode_wave}
+use Rattle.commands.specs.Commands.{encode_whole, encode_wave, converted, reported}
+use Rattle.commands.specs.declared.TheConstants.{READ}
+use Rattle.commands.proofs.Printing.{size_refused, stream_too_long}
 use Rattle.commands.specs.Cases.{pinned}
 use Rattle.commands.proofs.Checks.{pinned_hold}
 
@@ -72,3 +77,28 @@ unfolding encode_wave Refusing
 wave_refusals k file few =
     refusing_then PlainRefusal _ _ (plain_refusals file) λ w e.
     rw (wave_encodes k file w few e) tt
+
+-- ---- a program reads one byte more than it takes: what it prints for those bytes is what it prints for the whole input
+
+module _ (input : List ℕ) where
+  read_all : length input ≤ 65536 → take READ input ≡ input
+  read_all few = take_all READ input (omega arith)
+
+  read_more : 65536 < length input → 65536 < length (take READ input)
+  read_more more = simp length-take (omega arith)
+
+  pub convert_reads_enough : converted (take READ input) ≡ converted input
+  convert_reads_enough = go (dec_lt 65536 (length input))
+    where
+      go : Dec (65536 < length input) → converted (take READ input) ≡ converted input
+      go (yes more) =
+          let m = read_more more in
+          sym (size_refused (take READ input) (inr (omega arith, m))) ∙ size_refused input (inr (omega arith, more))
+      go (no few) = ap converted (read_all (omega arith))
+
+  pub report_reads_enough : reported (take READ input) ≡ reported input
+  report_reads_enough = go (dec_lt 65536 (length input))
+    where
+      go : Dec (65536 < length input) → reported (take READ input) ≡ reported input
+      go (yes more) = sym (stream_too_long (take READ input) (read_more more)) ∙ stream_too_long input more
+      go (no few) = ap reported (read_all (omega arith))

@@ -1,8 +1,8 @@
 -- What the functions print, case by case, and that it fits. Assumes nothing.
-use mathlib.Core.Path.{◌≡◌, refl, sym, ◌∙◌}
+use mathlib.Core.Path.{◌≡◌, refl, sym, ap, ◌∙◌}
 use mathlib.Core.Bool.{Bool, true, false, cond}
 use mathlib.Core.List.{List, []}
-use Prim.Native.Nat.{ℕ, ◌+◌, ◌*◌, ◌/◌, ◌≤◌, ◌<◌}
+use Prim.Native.Nat.{ℕ, ◌+◌, ◌-◌, ◌*◌, ◌/◌, ◌≤◌, ◌<◌}
 use native.Mathlib.Nat.{mul-le-mul_left, zero-add}
 use native.Mathlib.Numerals.{add-one}
 use native.Mathlib.Omega.{arith}
@@ -24,7 +24,8 @@ use Rattle.format.specs.declared.Variant.{Variant}
 use Rattle.format.proofs.Sizes.{payload_few}
 use Rattle.wav_format.specs.Wave.{read_wave, part_of}
 use Rattle.wav_format.specs.Samples.{samples_of}
-use Rattle.wav_format.specs.Answers.{number_of, values_of, filled_of, AsSamples}
+use Rattle.wav_format.specs.Answers.{AsSamples}
+use Rattle.wav_format.specs.Answers as waves
 use Rattle.wav_format.specs.declared.Wave.{Wave}
 use Rattle.wav_format.specs.declared.WaveError.{WaveError}
 use Rattle.wav_format.proofs.Claims.{load_accepts}
@@ -33,38 +34,56 @@ use Rattle.wav_samples.proofs.Samples.{length_samples}
 use Rattle.io.specs.Counts.{IsPrefixLen}
 use Rattle.text.specs.Text.{written, Put}
 use Rattle.text.proofs.Laws.{put_none, then_put, put_ends}
+use Rattle.commands.specs.Refused.{number_of, values_of, Gives}
+use Rattle.commands.specs.declared.Refused.{Refused}
+use Rattle.commands.specs.declared.Refused.TheVariants.{Codec}
+use Rattle.std.specs.declared.result.Result.{Result}
+use Rattle.std.specs.declared.result.Result.TheVariants.{Ok, Err}
+use Rattle.std.specs.Result.{IsErrAnd}
+use Rattle.std.proofs.lemmas.Result.{err_from_is_err_and}
+use Rattle.format.specs.Answers.{AsEncoded}
+use Rattle.format.specs.declared.Error.{Error}
+use Rattle.digits.proofs.Laws.{tail_all}
+use mathlib.Core.Logic.{◌⊎◌, inl, inr}
 use Rattle.commands.specs.Commands.{printed, encode_whole, encode_wave, converted, report, reported}
 use Rattle.lines.specs.Lines.{refusal_line, fragment_line}
-use Rattle.wav_format.specs.declared.WaveFilled.TheVariants as F
 
--- ---- what is printed of an outcome
+-- ---- what a program gives
 
-module _ {out after : List ℕ} {next : ℕ} (o : Outcome (List ℕ)) where
-  pub prints_line : {n : ℕ} {vs : List ℕ} → refused n vs ≡ o → Put out 0 (refusal_line n vs) after next → Put out 0 (printed o) after next
-  unfolding printed
-  prints_line e p = rw (← e, printed) p
+module _ {o : Outcome (List ℕ)} {out : List ℕ} where
+  pub gives_refusal : (r : Refused) → refused (number_of r) (values_of r) ≡ o → Gives o out (Err r) out
+  unfolding output_after
+  gives_refusal r e = record { answered = on_refused length o e; output_left = rw (← e) refl }
 
-  pub prints_text : {text : List ℕ} → result text ≡ o → Put out 0 text after next → Put out 0 (printed o) after next
-  unfolding printed
-  prints_text e p = rw (← e, printed) p
+  pub gives_text : {text after : List ℕ} {next : ℕ} → result text ≡ o → Put out 0 text after next → Gives o out (Ok next) after
+  unfolding on_result output_after written
+  gives_text e p = rw (← e) (record { answered = ap result (p.place ∙ zero-add _); output_left = p.output ∙ rw zero-add refl })
+
+  pub gives_error : (e : Refused) (r : Result ℕ Refused) → IsErrAnd r (λ x. x ≡ e) → refused (number_of e) (values_of e) ≡ o → Gives o out r out
+  gives_error e r i q = let p = err_from_is_err_and r i in rw (p.1, p.2) (gives_refusal e q)
+
+-- a text that is given is printed, and of what is refused its line
+module _ {out output : List ℕ} where
+  pub prints_text : (o : Outcome (List ℕ)) {n : ℕ} → Gives o out (Ok n) output → Put out 0 (printed o) output n
+  unfolding printed on_result output_after written
+  prints_text (result text) {n} g = let same : n ≡ length text = let e = g.answered in cc in record { place = rw zero-add same; output = rw zero-add g.output_left }
+  prints_text (refused m vs) g = let e = g.answered in let z : ◌≡◌ {A = ℕ} 0 1 = cc in let no : ⊥ = omega arith in absurd no
+
+  pub prints_line : (o : Outcome (List ℕ)) (r : Refused) {after : List ℕ} {next : ℕ} → Gives o out (Err r) output
+      → Put output 0 (refusal_line (number_of r) (values_of r)) after next → Put out 0 (printed o) after next
+  unfolding printed on_result output_after
+  prints_line (result text) r g p = let e = g.answered in let z : ◌≡◌ {A = ℕ} 0 1 = cc in let no : ⊥ = omega arith in absurd no
+  prints_line (refused m ws) r g p =
+      let e = g.answered in
+      let number : number_of r ≡ m = cc in
+      let values : values_of r ≡ ws = cc in
+      rw (← number, ← values, ← g.output_left) p
 
 -- the count of a text in an output that has kept its length
 pub counts : {out after text : List ℕ} {next : ℕ} → Put out 0 text after next → length after ≡ length out → IsPrefixLen next after
 counts {after = after} {next = next} p e = let ends : next ≤ length after = put_ends p e in (ends, sym (length-take-le next after ends))
 
 -- ---- the fragments' lines
-
-module _ (h : Header) (d out : List ℕ) (at : ℕ) (room : at ≤ length out) where
-  abbrev pub LinesPut : ℕ → List ℕ → ℕ → Type 0
-  LinesPut p after next = Put out at (joined (fragment_line h d) p) after next
-
-  pub no_lines : LinesPut 0 out at
-  unfolding joined
-  no_lines = put_none out at room
-
-  pub one_line_more : (p : ℕ) {one two : List ℕ} {a b : ℕ} (text : List ℕ) → text ≡ fragment_line h d p → LinesPut p one a → Put one a text two b → LinesPut (p + 1) two b
-  unfolding joined
-  one_line_more p text e l m = rw add-one (then_put out at room l (rw e at m))
 
 -- a fragment has at least 25 bytes, so that a stream of at most 65,536 bytes has at most 2,620
 fragment_large : (h : Header) → 25 ≤ size_in h
@@ -80,17 +99,17 @@ fragments_few h l = omega (arith, mul-le-mul_left (frames h * h.channels) (fragm
 -- ---- sample bytes
 
 module _ (bytes : List ℕ) (out output : List ℤ) (room : length bytes / 2 ≤ length out) where
-  pub loaded : (n : ℕ) → AsSamples bytes out (F.Filled n) output → (n ≡ length bytes / 2) × (take n output ≡ samples_of bytes)
-  unfolding filled_of on_result output_after
+  pub loaded : (n : ℕ) → AsSamples bytes out (Ok n) output → (n ≡ length bytes / 2) × (take n output ≡ samples_of bytes)
+  unfolding on_result output_after
   loaded n p =
       let same : result n ≡ result (length (samples_of bytes)) = rw (load_accepts bytes (length out) room) at p.answered in
       let count : n ≡ length (samples_of bytes) = cc in
       (count ∙ length_samples bytes, rw (p.output_left, load_accepts bytes (length out) room) (take_at (samples_of bytes) _ n (sym count)))
 
-  pub not_loaded : {P : Type 0} (e : WaveError) → AsSamples bytes out (F.Refused e) output → P
-  unfolding filled_of on_result
+  pub not_loaded : {P : Type 0} (e : WaveError) → AsSamples bytes out (Err e) output → P
+  unfolding on_result
   not_loaded e p =
-      let refuses : refused (number_of e) (values_of e) ≡ result (length (samples_of bytes)) = rw (load_accepts bytes (length out) room) at p.answered in
+      let refuses : refused (waves.number_of e) (waves.values_of e) ≡ result (length (samples_of bytes)) = rw (load_accepts bytes (length out) room) at p.answered in
       let z : ◌≡◌ {A = ℕ} 0 1 = cc in
       let no : ⊥ = omega arith in
       absurd no
@@ -124,66 +143,60 @@ module _ (k : Settings) (pcm : List ℤ) (channels rate : ℕ) (few : length pcm
       go false e = rw e refl
       go true e = rw (le-ltb room needed (omega (arith, needed_few e)), le-ltb needed needed (omega arith)) refl
 
--- what the encoder has written, and what it has refused
-module _ {out output : List ℕ} where
-  pub encoding_printed : (o : Outcome (List ℕ)) (n : ℕ) → result n ≡ on_result length o → output ≡ output_after o out → Put out 0 (printed o) output n
-  unfolding printed on_result output_after written
-  encoding_printed (result text) n a e = let same : n ≡ length text = cc in record { place = rw zero-add same; output = rw zero-add e }
-  encoding_printed (refused m vs) n a e = let z : ◌≡◌ {A = ℕ} 0 1 = cc in let no : ⊥ = omega arith in absurd no
+module _ {k : Settings} {pcm : List ℤ} {channels rate : ℕ} {out output : List ℕ} {o : Outcome (List ℕ)} (all : encode_call k pcm channels rate (length out) ≡ o) where
+  pub gives_encoded : {n : ℕ} → AsEncoded k pcm channels rate out (Ok n) output → Gives o out (Ok n) output
+  gives_encoded e = record { answered = e.answered ∙ ap (on_result length) all; output_left = e.output_left ∙ ap (λ (x : Outcome (List ℕ)). output_after x out) all }
 
-  pub refusal_printed : (o : Outcome (List ℕ)) {n : ℕ} {vs after : List ℕ} {next : ℕ} → refused n vs ≡ on_result length o → output ≡ output_after o out
-      → Put output 0 (refusal_line n vs) after next → Put out 0 (printed o) after next
-  unfolding printed on_result output_after
-  refusal_printed (result text) a e p = let z : ◌≡◌ {A = ℕ} 0 1 = cc in let no : ⊥ = omega arith in absurd no
-  refusal_printed (refused m ws) {n} {vs} a e p =
-      let number : n ≡ m = cc in
-      let values : vs ≡ ws = cc in
-      rw (← number, ← values, ← e) p
-
--- ---- a WAV
-
-module _ (k : Settings) (file : List ℕ) where
-  pub wave_encoded : (w : Wave) → result w ≡ read_wave file → encode_whole k (samples_of (part_of file (result w))) w.channels w.rate ≡ encode_wave k file
-  unfolding encode_wave
-  wave_encoded w e = then_result (read_wave file) w _ _ e refl
-
-  pub wave_refused : (e : WaveError) → refused (number_of e) (values_of e) ≡ read_wave file → refused (number_of e) [] ≡ encode_wave k file
-  unfolding encode_wave
-  wave_refused e q =
-      let none = (refusing_is PlainRefusal (read_wave file) (plain_refusals file) q).2 in
-      rw (← none) (then_refused _ _ _ _ q)
-
-pub part_few : (file : List ℕ) (o : Outcome Wave) → length (part_of file o) ≤ length file
-unfolding part_of
-part_few file (result w) = simp (length-take, length-drop) (omega arith)
-part_few file (refused n vs) = omega arith
+  pub gives_unencoded : (e : Error) (r : Result ℕ Refused) → AsEncoded k pcm channels rate out (Err e) output → IsErrAnd r (λ x. x ≡ Codec e) → Gives o out r output
+  gives_unencoded e r a i =
+      let p = err_from_is_err_and r i in
+      rw (p.1, p.2) (record { answered = a.answered ∙ ap (on_result length) all; output_left = a.output_left ∙ ap (λ (x : Outcome (List ℕ)). output_after x out) all })
 
 -- ---- the programs' own checks
 
--- what a program has read: no more than it takes, or more
-pub read_few : (buffer : List ℕ) (count : ℕ) → count ≤ 65536 → length (take count buffer) ≤ 65536
-read_few buffer count l = simp length-take (omega arith)
-
-pub read_more : (buffer : List ℕ) (count : ℕ) → 65536 < length buffer → 65536 < count → 65536 < length (take count buffer)
-read_more buffer count l m = simp length-take (omega arith)
-
 module _ (input : List ℕ) where
-  pub short_refused : length input < 2 → refused 38 [] ≡ converted input
+  pub size_refused : (length input < 2) ⊎ ((2 ≤ length input) × (65536 < length input)) → refused 38 [] ≡ converted input
   unfolding converted
-  short_refused l = search checks depth 12
+  size_refused (inl short) = search checks depth 12
+  size_refused (inr long) = clear _ _ _ _ _ (le-ltb (length input) 2 (omega arith)) (search checks depth 12)
 
-  pub long_refused : 65536 < length input → refused 38 [] ≡ converted input
-  unfolding converted
-  long_refused l = clear _ _ _ _ _ (le-ltb (length input) 2 (omega arith)) (search checks depth 12)
+  module _ (two : 2 ≤ length input) (few : length input ≤ 65536) where
+    pub variant_refused : {n : ℕ} {vs : List ℕ} → refused n vs ≡ variant_of (get_or input 0 0) → refused n vs ≡ converted input
+    unfolding converted
+    variant_refused e = clear _ _ _ _ _ (le-ltb _ _ two) (clear _ _ _ _ _ (le-ltb _ _ few) (then_refused _ _ _ _ e))
 
-  pub variant_refused : {n : ℕ} {vs : List ℕ} → 2 ≤ length input → length input ≤ 65536 → refused n vs ≡ variant_of (get_or input 0 0) → refused n vs ≡ converted input
-  unfolding converted
-  variant_refused two few e = clear _ _ _ _ _ (le-ltb _ _ two) (clear _ _ _ _ _ (le-ltb _ _ few) (then_refused _ _ _ _ e))
+    module _ (v : Variant) (known : result v ≡ variant_of (get_or input 0 0)) where
+      abbrev k : Settings
+      k = record { variant = v; gain = get_or input 1 0 }
 
-  pub rest_converted : (v : Variant) → 2 ≤ length input → length input ≤ 65536 → result v ≡ variant_of (get_or input 0 0)
-      → encode_wave (record { variant = v; gain = get_or input 1 0 }) (drop 2 input) ≡ converted input
-  unfolding converted
-  rest_converted v two few e = clear _ _ _ _ _ (le-ltb _ _ two) (clear _ _ _ _ _ (le-ltb _ _ few) (then_result _ v _ _ e refl))
+      abbrev file : List ℕ
+      file = take (length input - 2) (drop 2 input)
+
+      rest : encode_wave k file ≡ converted input
+      unfolding converted
+      rest = rw tail_all (clear _ _ _ _ _ (le-ltb _ _ two) (clear _ _ _ _ _ (le-ltb _ _ few) (then_result _ v _ _ known refl)))
+
+      pub wave_refused : {n : ℕ} {vs : List ℕ} → refused n vs ≡ read_wave file → refused n vs ≡ converted input
+      unfolding encode_wave
+      wave_refused e = then_refused _ _ _ _ e ∙ rest
+
+      abbrev samples : List ℤ
+      samples = samples_of (part_of file (read_wave file))
+
+      pub part_few : length (part_of file (read_wave file)) / 2 ≤ 32768
+      unfolding part_of
+      part_few = go (read_wave file)
+        where
+          go : (o : Outcome Wave) → length (part_of file o) / 2 ≤ 32768
+          go (result w) = simp (length-take, length-drop) (omega arith)
+          go (refused n vs) = omega arith
+
+      -- the encoder has all the room that it needs
+      pub wave_encoded : (w : Wave) → result w ≡ read_wave file → (room : ℕ) → 335488 ≤ room → encode_call k samples w.channels w.rate room ≡ converted input
+      unfolding encode_wave
+      wave_encoded w e room enough =
+          let here : encode_whole k samples w.channels w.rate ≡ encode_wave k file = then_result (read_wave file) w _ _ e (rw (← e) refl) in
+          room_enough k samples w.channels w.rate (rw length_samples part_few) room enough ∙ here ∙ rest
 
 module _ (d : List ℕ) where
   pub stream_too_long : 65536 < length d → refused 38 [] ≡ reported d

@@ -3,13 +3,7 @@
 #![tactic(auto)]
 
 use std::io;
-use std::io::{Read, Write};
 
 fn main(rt: HostRuntime) -> io::Result<()> {
-    let mut input = [0u8; commands::READ];
-    let mut source = rt.stdin().take(commands::READ as u64);
-    let n = io::copy(&mut source, &mut &mut input[..])? as usize;
-    let mut out = [0u8; commands::ROOM];
-    let count = commands::convert(&input, n, &mut out);
-    rt.stdout().write_all(&out[..count])
+    commands::run(rt.stdin(), rt.stdout(), commands::convert)
 }

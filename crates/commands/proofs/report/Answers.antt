@@ -1,6 +1,8 @@
 -- `commands::report` meets its contract. Assumes nothing.
+use native.Mathlib.Omega.{arith}
 use Rattle.commands.proofs.Printing.{counts}
+use Rattle.commands.specs.Commands.{reported}
 use Rattle.commands.proofs.report.Goals as goal
 
-pub returns : goal.returns
-returns c = record { prefix_len = counts c.put_reported.ensures c.put_reported.auto.out; put = c.put_reported.ensures }
+pub returns-clause-prefix_len : goal.returns-clause-prefix_len
+returns-clause-prefix_len c = counts (c.put_answer.ensures (reported c.args.input.now) c.args.out.now c.inspect-answer.ensures) (omega arith)

@@ -1,0 +1,60 @@
+-- `commands::encode` meets its contract. Assumes nothing.
+use mathlib.Core.Path.{◌≡◌, sym, ap, ◌∙◌}
+use Prim.Native.Nat.{◌/◌}
+use native.Mathlib.Omega.{arith}
+use lib.ListN.{length, length-take, take}
+use Rattle.wav_format.specs.Samples.{samples_of}
+use Rattle.wav_format.proofs.Plain.{plain}
+use Rattle.wav_format.proofs.Steps.{one_or_two_is}
+use Rattle.wav_samples.proofs.Samples.{length_samples}
+use Rattle.commands.proofs.Printing as printing
+use Rattle.commands.proofs.Printing.{gives_refusal, gives_error, gives_encoded, gives_unencoded, loaded, not_loaded}
+use Rattle.commands.specs.declared.Refused.TheVariants.{Size}
+use Rattle.commands.proofs.encode.Goals as goal
+use Rattle.commands.proofs.encode.Goals.{In_ok-count}
+
+pub returns-then-input-lt2 : goal.returns-then-input-lt2
+returns-then-input-lt2 c = gives_refusal Size (printing.size_refused _ c.then-input-lt2.either)
+
+pub returns-in_err-variant : goal.returns-in_err-variant
+returns-in_err-variant c = gives_error _ _ c.from_residual.ensures.1 (printing.variant_refused _ c.if-input-lt2.false c.if-input-gt-MOST.false c.in_err-variant.ensures)
+
+pub returns-in_err-wave : goal.returns-in_err-wave
+returns-in_err-wave c =
+    gives_error _ _ c.from_residual-in_err-wave.ensures.1
+    (printing.wave_refused _ c.if-input-lt2.false c.if-input-gt-MOST.false _ c.in_ok-variant.ensures c.in_err-wave.ensures)
+
+pub returns-in_err-count : goal.returns-in_err-count
+returns-in_err-count c =
+    let room = printing.part_few _ c.if-input-lt2.false c.if-input-gt-MOST.false _ c.in_ok-variant.ensures in
+    not_loaded _ _ _ (rw c.wave_samples.ensures room) _ (rw c.in_err-count.was at c.load_samples.ensures)
+
+pub overflow_cast-channels : goal.overflow_cast-channels
+overflow_cast-channels c = omega (arith, one_or_two_is _ (plain _ _ (sym c.in_ok-wave.ensures)).channels)
+
+-- the samples that are loaded
+all : (c : In_ok-count) → (c.in_ok-count.count ≡ length c.wave_samples.result.now / 2) × (take c.in_ok-count.count c.load_samples.new.out ≡ samples_of c.wave_samples.result.now)
+all c =
+    let room = printing.part_few _ c.if-input-lt2.false c.if-input-gt-MOST.false _ c.in_ok-variant.ensures in
+    loaded _ _ _ (rw c.wave_samples.ensures room) _ (rw c.in_ok-count.was at c.load_samples.ensures)
+
+as_many : (c : In_ok-count) → c.in_ok-count.count ≡ length (take c.in_ok-count.count c.load_samples.new.out)
+as_many c = let s = all c in s.0 ∙ sym (ap length s.1 ∙ length_samples _)
+
+pub slice_bounds-pcm-end : goal.slice_bounds-pcm-end
+slice_bounds-pcm-end c = omega (arith, simp length-take at (as_many c))
+
+pub slice_bounds-encode-end : goal.slice_bounds-encode-end
+slice_bounds-encode-end c = as_many (goal.at.slice_bounds-encode-end c).In_ok-count
+
+pub returns-in_err-encode : goal.returns-in_err-encode
+returns-in_err-encode c =
+    let s = all (goal.at.returns-in_err-encode c).In_ok-count in
+    let whole = printing.wave_encoded _ c.if-input-lt2.false c.if-input-gt-MOST.false _ c.in_ok-variant.ensures _ c.in_ok-wave.ensures (length c.args.out.now) (omega arith) in
+    gives_unencoded whole _ _ (rw (s.1, c.wave_samples.ensures, c.in_err-encode.was) at c.encode.ensures) c.from_residual-in_err-encode.ensures.1
+
+pub returns : goal.returns
+returns c =
+    let s = all (goal.at.returns c).In_ok-count in
+    let whole = printing.wave_encoded _ c.if-input-lt2.false c.if-input-gt-MOST.false _ c.in_ok-variant.ensures _ c.in_ok-wave.ensures (length c.args.out.now) (omega arith) in
+    gives_encoded whole (rw (s.1, c.wave_samples.ensures, c.in_ok-encode.was) at c.encode.ensures)

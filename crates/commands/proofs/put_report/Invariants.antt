@@ -1,0 +1,12 @@
+-- `commands::put_report` meets its contract. Assumes nothing.
+use Prim.Native.Nat.{◌*◌, ◌≤◌}
+use lib.ListN.{length}
+use Rattle.lists.specs.Lists.{joined}
+use Rattle.text.specs.Printer.{Printed}
+use Rattle.lines.specs.Lines.{fragment_line}
+use Rattle.commands.proofs.put_report.Given as goal
+
+abbrev pub invariant-loop-p : goal.invariant-loop-p
+invariant-loop-p l =
+    let text = joined (fragment_line l.stream.header l.stream.file.now) l.p in
+    Printed l.initial.page text l.page × (length text ≤ l.p * 128)
