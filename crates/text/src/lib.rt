@@ -1,7 +1,7 @@
 // Printing for the programs: words and decimal numbers, one behind the other in a lent output.
 #![tactic(auto)]
 
-ghost use Rattle.std.specs.Prelude.{◌≡◌, ◌++◌, ◌≤◌, length};
+ghost use Rattle.std.specs.Prelude.{◌≡◌, ◌++◌, ◌≤◌, length, take};
 ghost use Rattle.text.specs.Text.{decimal};
 
 // A lent output, and the place in it where the next piece goes. What does not fit is left out.
@@ -28,6 +28,13 @@ impl<'a> Printer<'a> {
         ensures { result ≡ self.now.at }
     {
         self.at
+    }
+
+    // What is printed.
+    pub fn text(&self) -> &[u8]
+        ensures { result.now ≡ take self.now.at self.now.out.now }
+    {
+        &self.out[..self.at]
     }
 
     // A piece of text.
