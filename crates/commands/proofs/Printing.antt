@@ -4,7 +4,6 @@ use mathlib.Core.Bool.{Bool, true, false, cond}
 use mathlib.Core.List.{List, []}
 use Prim.Native.Nat.{ℕ, ◌+◌, ◌-◌, ◌*◌, ◌/◌, ◌≤◌, ◌<◌}
 use native.Mathlib.Nat.{mul-le-mul_left, zero-add}
-use native.Mathlib.Numerals.{add-one}
 use native.Mathlib.Omega.{arith}
 use lib.Dec.{eqb}
 use lib.IntN.{ℤ}
@@ -13,8 +12,7 @@ use lib.Seq.{take_at, length-take-le}
 use borrow.Author.Tests.{le-ltb, eqb-true}
 use Rattle.outcome.specs.Outcome.{Outcome, result, refused, refuse_if, need, on_result, output_after}
 use Rattle.outcome.proofs.Flags.{either_elim}
-use Rattle.outcome.proofs.Laws.{checks, clear, then_result, then_refused, on_result_lem, on_refused, refusing_is}
-use Rattle.lists.specs.Lists.{joined}
+use Rattle.outcome.proofs.Laws.{checks, clear, then_result, then_refused, on_result_lem, on_refused}
 use Rattle.format.specs.Layout.{variant_of, anew, version_for, channels_fit, payload_bytes, frames, size_in, stream_length}
 use Rattle.format.specs.Encode.{header_written, encode_call}
 use Rattle.format.specs.Inspect.{inspected}
@@ -29,11 +27,10 @@ use Rattle.wav_format.specs.Answers as waves
 use Rattle.wav_format.specs.declared.Wave.{Wave}
 use Rattle.wav_format.specs.declared.WaveError.{WaveError}
 use Rattle.wav_format.proofs.Claims.{load_accepts}
-use Rattle.wav_format.proofs.Plain.{PlainRefusal, plain_refusals}
 use Rattle.wav_samples.proofs.Samples.{length_samples}
 use Rattle.io.specs.Counts.{IsPrefixLen}
 use Rattle.text.specs.Text.{written, Put}
-use Rattle.text.proofs.Laws.{put_none, then_put, put_ends}
+use Rattle.text.proofs.Laws.{put_ends}
 use Rattle.commands.specs.Refused.{number_of, values_of, Gives}
 use Rattle.commands.specs.declared.Refused.{Refused}
 use Rattle.commands.specs.declared.Refused.TheVariants.{Codec}
@@ -46,7 +43,7 @@ use Rattle.format.specs.declared.Error.{Error}
 use Rattle.digits.proofs.Laws.{tail_all}
 use mathlib.Core.Logic.{◌⊎◌, inl, inr}
 use Rattle.commands.specs.Commands.{printed, encode_whole, encode_wave, converted, report, reported}
-use Rattle.lines.specs.Lines.{refusal_line, fragment_line}
+use Rattle.lines.specs.Lines.{refusal_line}
 
 -- ---- what a program gives
 
