@@ -9,7 +9,7 @@ ghost use Rattle.wav.specs.Parts.{part_within};
 use wav_format::{Wave, WaveError};
 
 // Plain reading: what a WAV file says and where its samples lie, or the first refusal of 20 to 33.
-#[tactic(auto, using(outcome::proofs::Laws::checks), unfolding(wav_format::specs::Wave::read_wave, wav_format::specs::Answers::number_of, wav_format::specs::Answers::values_of))]
+#[tactic(auto, using(outcome::proofs::Laws::checks), unfolding(outcome::specs::Outcome::and_then, wav_format::specs::Wave::read_wave, wav_format::specs::Answers::number_of, wav_format::specs::Answers::values_of))]
 pub fn read_pcm16_wave(file: &[u8]) -> Result<Wave, WaveError>
     ensures { answered result ≡ read_wave file.now }
 {
@@ -48,7 +48,7 @@ pub fn wave_samples(file: &[u8]) -> &[u8]
 }
 
 // Strict reading: plain reading, and then the checks 40 to 42.
-#[tactic(auto, using(outcome::proofs::Laws::then_result, outcome::proofs::Laws::then_refused), unfolding(wav_format::specs::Wave::read_strict))]
+#[tactic(auto, unfolding(outcome::specs::Outcome::and_then, wav_format::specs::Wave::read_strict))]
 pub fn read_strict(file: &[u8]) -> Result<Wave, WaveError>
     ensures { answered result ≡ read_strict file.now }
 {

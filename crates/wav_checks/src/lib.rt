@@ -2,35 +2,18 @@
 #![tactic(auto)]
 
 ghost use Rattle.std.specs.Prelude.{◌≡◌};
-ghost use Rattle.wav_format.specs.Wave.{pcm16, consistent, check_format, check_chunks, check_strict};
+ghost use Rattle.wav_format.specs.Wave.{check_format, check_chunks, check_strict};
 ghost use Rattle.wav_format.specs.Answers.{answered};
 
 use wav_format::{Chunks, Format, Wave, WaveError};
 
-// Whether the encoding is PCM, with 16 bits a sample.
-#[tactic(auto, unfolding(wav_format::specs::Wave::pcm16))]
-fn is_pcm16(encoding: u16, bits: u16) -> bool
-    ensures { result ≡ pcm16 encoding bits }
-{
-    encoding == 1 && bits == 16
-}
-
-// Whether alignment and byte rate are those of channels and rate.
-#[tactic(auto, unfolding(wav_format::specs::Wave::consistent))]
-fn is_consistent(f: Format) -> bool
-    ensures { result ≡ consistent f.channels f.rate f.byte_rate f.align }
-{
-    let frame = f.channels as u64 * 2;
-    f.align as u64 == frame && f.byte_rate as u64 == f.rate as u64 * frame
-}
-
 // The checks 27 to 31, on the fields of the fmt chunk. The answer is a frame's bytes.
-#[tactic(auto, using(outcome::proofs::Laws::checks), unfolding(wav_format::specs::Wave::check_format, wav_format::specs::Answers::number_of, wav_format::specs::Answers::values_of))]
+#[tactic(auto, using(outcome::proofs::Laws::checks), unfolding(wav_format::specs::Wave::check_format, wav_format::specs::Wave::pcm16, wav_format::specs::Wave::consistent, wav_format::specs::Answers::number_of, wav_format::specs::Answers::values_of))]
 fn check_format(f: Format) -> Result<usize, WaveError>
     ensures { answered result
         ≡ check_format f.encoding f.channels f.rate f.byte_rate f.align f.bits }
 {
-    if !is_pcm16(f.encoding, f.bits) {
+    if f.encoding != 1 || f.bits != 16 {
         return Err(WaveError::Encoding);
     }
     if !wav_format::one_or_two(f.channels) {
@@ -39,17 +22,16 @@ fn check_format(f: Format) -> Result<usize, WaveError>
     if f.rate == 0 {
         return Err(WaveError::ZeroRate);
     }
-    let frame = f.channels as usize * 2;
-    if 4294967295 < f.rate as usize * frame {
-        return Err(WaveError::ByteRate);
-    }
-    if !is_consistent(f) {
+    let frame = f.channels as u32 * 2;
+    let byte_rate = f.rate.checked_mul(frame).ok_or(WaveError::ByteRate)?;
+    if f.align as u32 != frame || f.byte_rate != byte_rate {
         return Err(WaveError::Inconsistent);
     }
-    Ok(frame)
+    Ok(frame as usize)
 }
 
 // The checks 26 to 33, after the walk.
+#[tactic(auto, using(outcome::proofs::Laws::checks), unfolding(outcome::specs::Outcome::and_then, wav_format::specs::Wave::found, wav_format::specs::Wave::check_chunks, wav_format::specs::Wave::check_data, wav_format::specs::Answers::number_of, wav_format::specs::Answers::values_of))]
 pub fn check_chunks(end: usize, c: Chunks) -> Result<Wave, WaveError>
     ensures { answered result ≡ check_chunks end c }
 {

@@ -4,11 +4,7 @@ use mathlib.Core.List.{List, ◌++◌, append_assoc}
 use Prim.Native.Nat.{ℕ, ◌+◌, ◌*◌, ◌-◌}
 use lib.IntN.{ℤ}
 use lib.ListN.{length, take, drop, length-append}
-use lib.Seq.{take_at, drop_at, drop-drop, take-length}
-use Rattle.std.specs.Prelude.{Option, None}
-use Rattle.std.specs.Option.{ok_or}
-use Rattle.std.specs.Result.{IsErrAnd}
-use Rattle.std.specs.declared.result.Result.{Result}
+use lib.Seq.{take_at, drop_at, drop-drop}
 use Rattle.std.specs.declared.result.Result.TheVariants.{Ok, Err}
 use Rattle.outcome.specs.Outcome.{result, on_result, output_after}
 use Rattle.outcome.proofs.Laws.{on_result_lem, output_result}
@@ -32,34 +28,30 @@ module _ (channels rate : ℕ) (samples : List ℤ) (out : List ℕ) where
   unfolding on_result output_after
   as_refused e q = record { answered = rw (← q); output_left = rw (← q) }
 
-  -- the same where a `?` passes it on, for a value that is not there
-  pub as_lacking : {B : Type 0} (r : Result ℕ WaveError) (o : Option B) (e f : WaveError) → IsErrAnd r (λ g. g ≡ e) → Err e ≡ ok_or o f → o ≡ None
-      → refusal f ≡ write_call channels rate samples (length out) → AsWritten channels rate samples out r out
-  as_lacking (Ok n) o e f h v none q = absurd h
-  as_lacking (Err g) o e f h v none q = let same = rw none at v in let is : g ≡ f = cc in as_refused g (rw is q)
-
   abbrev size : ℕ
   size = 2 * length samples
 
-  -- the header is copied to the front, and the samples' bytes go into the part behind it
-  pub as_written : (header headed tail : List ℕ) → result (wave_bytes channels rate samples) ≡ write_call channels rate samples (length out)
-      → header ≡ wave_header channels rate (2 * length samples) → headed ≡ take (length header) header ++ drop (length header) out
-      → tail ≡ sample_bytes samples ++ drop (2 * length samples) (take (length headed - 44) (drop 44 headed))
-      → AsWritten channels rate samples out (Ok (44 + 2 * length samples)) (take 44 headed ++ (tail ++ drop (length headed - 44) (drop 44 headed)))
+  -- the output with the header copied to its front
+  abbrev headed : List ℕ → List ℕ
+  headed header = header ++ drop 44 out
+
+  -- the samples' bytes go into the part behind it
+  pub as_written : (header tail : List ℕ) → result (wave_bytes channels rate samples) ≡ write_call channels rate samples (length out)
+      → header ≡ wave_header channels rate size → tail ≡ sample_bytes samples ++ drop size (take (length (headed header) - 44) (drop 44 (headed header)))
+      → AsWritten channels rate samples out (Ok (44 + 2 * length samples)) (take 44 (headed header) ++ (tail ++ drop (length (headed header) - 44) (drop 44 (headed header))))
   unfolding wave_bytes
-  as_written header headed tail q eh ed et =
+  as_written header tail q eh et =
       let all = wave_bytes channels rate samples in
       let long : length header ≡ 44 = ap length eh ∙ length-header channels rate size in
-      let whole : headed ≡ header ++ drop 44 out = ed ∙ rw (take-length, long) in
-      let front : take 44 headed ≡ wave_header channels rate size = ap (take 44) whole ∙ take_at header (drop 44 out) 44 long ∙ eh in
-      let back : drop 44 headed ≡ drop 44 out = ap (drop 44) whole ∙ drop_at header (drop 44 out) 44 long in
+      let front : take 44 (headed header) ≡ wave_header channels rate size = take_at header (drop 44 out) 44 long ∙ eh in
+      let back : drop 44 (headed header) ≡ drop 44 out = drop_at header (drop 44 out) 44 long in
       let rest : tail ≡ sample_bytes samples ++ drop (44 + size) out =
-      et ∙ ap (λ l. sample_bytes samples ++ drop size l) (tail_all 44 headed ∙ back) ∙ ap (λ l. sample_bytes samples ++ l) (drop-drop size 44 out) in
+      et ∙ ap (λ l. sample_bytes samples ++ drop size l) (tail_all 44 (headed header) ∙ back) ∙ ap (λ l. sample_bytes samples ++ l) (drop-drop size 44 out) in
       let e : write_call channels rate samples (length out) ≡ result all = sym q in
       record {
         answered = ap result (sym (length-wave channels rate samples)) ∙ sym (on_result_lem length (write_call channels rate samples (length out)) e);
         output_left =
-            tail_put 44 headed rest
+            tail_put 44 (headed header) rest
             ∙ ap (λ l. l ++ (sample_bytes samples ++ drop (44 + size) out)) front
             ∙ sym (append_assoc (wave_header channels rate size) (sample_bytes samples) (drop (44 + size) out))
             ∙ ap (λ m. all ++ drop m out) (sym (length-wave channels rate samples))

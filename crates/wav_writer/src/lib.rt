@@ -39,6 +39,7 @@ fn put_samples(samples: &[i16], out: &mut [u8])
 
 // Writes a WAV file of the samples, which are interleaved, to the front of `out`, and answers its length. Rate 0 and a partial frame
 // are accepted; a refusal leaves the output as it was.
+#[tactic(auto, using(outcome::proofs::Laws::checks, crate::proofs::Written::as_refused), unfolding(crate::specs::Writer::write_call, outcome::specs::Outcome::on_result, outcome::specs::Outcome::output_after, wav_format::specs::Answers::number_of, wav_format::specs::Answers::values_of))]
 pub fn write_pcm16_wave(
     channels: u8,
     rate: u32,
