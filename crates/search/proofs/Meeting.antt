@@ -9,15 +9,34 @@ use lib.ListN.{length, get_or, set, take, length-set}
 use lib.Seq.{get_or-take}
 use Rattle.lists.specs.Lists.{tabulate}
 use Rattle.lists.proofs.ByIndex.{get_d_tabulate, fill_next}
+use Rattle.signed.proofs.Raised.{raised-same}
+use Rattle.format.specs.Decode.{InRange}
 use Rattle.format.specs.Encode.{trial_step, trial_to}
 use Rattle.format.specs.declared.Settings.{Settings}
 use Rattle.format.specs.declared.State.{State}
-use Rattle.search.specs.Search.{mark_of, marks_of, Ran, tie, Beaten}
+use Rattle.format.proofs.Range.{start_range, stepped_range}
+use Rattle.search.specs.Search.{key, mark_of, marks_of, Ran, tie, Beaten}
 use Rattle.search.specs.declared.Mark.{Mark}
 use Rattle.search.specs.declared.Best.{Best}
 use Rattle.search.proofs.Summed.{Summed, over_limit}
 
+-- ---- a state and its key
+
+same : (a b : ℤ) (i j : ℕ) → a ≡ b → i ≡ j → ◌≡◌ {A = State} (record { predictor = a; index = i }) (record { predictor = b; index = j })
+same a b i j p q = rw (p, q)
+
+key-same : (s t : State) → InRange s → InRange t → key s ≡ key t → s ≡ t
+unfolding key
+key-same s t hs ht e =
+    let i : s.index ≡ t.index = omega (arith, hs.index, ht.index) in
+    same s.predictor t.predictor s.index t.index (raised-same s.predictor t.predictor hs.predictor ht.predictor (omega arith)) i
+
 module _ (k : Settings) (v : ℕ) (xs : List ℤ) where
+  trial_range : (index n : ℕ) → InRange (trial_to k v xs index n).state
+  unfolding trial_to trial_step
+  trial_range index zero = start_range index
+  trial_range index (suc n) = stepped_range 3 k.variant (trial_to k v xs index n).state _
+
   -- j samples on
   alike : (a b i : ℕ) → (trial_to k v xs a i).state ≡ (trial_to k v xs b i).state → (j : ℕ)
       → ((trial_to k v xs a (j + i)).state ≡ (trial_to k v xs b (j + i)).state)
@@ -38,14 +57,14 @@ module _ (k : Settings) (v : ℕ) (xs : List ℤ) where
     unfolding marks_of tabulate
     traced_none d h = record { summed = d; room = h; marked = refl }
 
-    pub traced_more : {i : ℕ} {s t : State} {sum sum' : ℕ} {trace : List Mark} → Traced index i s sum trace → i < 63
-        → Summed k v xs index (i + 1) t sum' → Traced index (i + 1) t sum' (set trace i (record { sum = sum; state = s }))
+    pub traced_more : {i : ℕ} {s t : State} {sum sum' key' : ℕ} {trace : List Mark} → Traced index i s sum trace → i < 63 → key' ≡ key s
+        → Summed k v xs index (i + 1) t sum' → Traced index (i + 1) t sum' (set trace i (record { sum = sum; key = key' }))
     unfolding marks_of
-    traced_more {i} {s} {t} {sum} {sum'} {trace} d h m =
+    traced_more {i} {s} {t} {sum} {sum'} {key'} {trace} d h e m =
         record {
           summed = m;
           room = rw length-set d.room;
-          marked = fill_next (λ i. mark_of (trial_to k v xs index i)) trace i (record { sum = sum; state = s }) (omega (arith, d.room)) d.marked (rw (d.summed.state, d.summed.total));
+          marked = fill_next (λ i. mark_of (trial_to k v xs index i)) trace i (record { sum = sum; key = key' }) (omega (arith, d.room)) d.marked (rw (e, d.summed.state, d.summed.total));
         }
 
     pub ran : {i : ℕ} {s : State} {sum : ℕ} {trace : List Mark} → length xs ≤ 63 → Traced index i s sum trace → length xs ≤ i
@@ -69,11 +88,12 @@ module _ (k : Settings) (v : ℕ) (xs : List ℤ) where
       ∙ get_d_tabulate (λ j. mark_of (trial_to k v xs b.index j)) (length xs) i d h
 
   -- met at i samples
-  pub met : {b : Best} {index i : ℕ} {s : State} {sum : ℕ} (d : Mark) → Ran k v xs b → Summed k v xs index i s sum → i < length xs
-      → (get_or b.marks i d).state ≡ s → (get_or b.marks i d).sum + tie index b.index ≤ sum → Beaten k v xs index b
-  met {b} {index} {i} {s} {sum} d r t h e l =
+  pub met : {b : Best} {index i key' : ℕ} {s : State} {sum : ℕ} (d : Mark) → Ran k v xs b → Summed k v xs index i s sum → i < length xs → key' ≡ key s
+      → (get_or b.marks i d).key ≡ key' → (get_or b.marks i d).sum + tie index b.index ≤ sum → Beaten k v xs index b
+  met {b} {index} {i} {key'} {s} {sum} d r t h ek e l =
       let m = mark_at d r i h in
-      let es : (trial_to k v xs index i).state ≡ (trial_to k v xs b.index i).state = sym t.state ∙ sym e ∙ ap (λ (m : Mark). m.state) m in
+      let ed : key (trial_to k v xs index i).state ≡ key (trial_to k v xs b.index i).state = ap key (sym t.state) ∙ sym ek ∙ sym e ∙ ap (λ (m : Mark). m.key) m in
+      let es = key-same (trial_to k v xs index i).state (trial_to k v xs b.index i).state (trial_range index i) (trial_range b.index i) ed in
       let f : length xs - i + i ≡ length xs = omega arith in
       let w = rw f at (alike index b.index i es (length xs - i)).1 in
       record { over = omega (arith, ap (λ (m : Mark). m.sum) m, t.total, r.sum) }

@@ -1,14 +1,19 @@
 -- What the parts of the search promise: a trial that may be given up, and which sums win. Assumes nothing.
 use Rattle.std.specs.Prelude.{◌≡◌, ℕ, ◌+◌, ◌-◌, ◌*◌, ◌^◌, ◌≤◌, ◌<◌, List, cond, ltb, ℤ, length, take}
 use Rattle.lists.specs.Lists.{tabulate}
+use Rattle.signed.specs.Signed.{raised}
 use Rattle.format.specs.Encode.{Trial, trial_to}
 use Rattle.format.specs.declared.Settings.{Settings}
+use Rattle.format.specs.declared.State.{State}
 use Rattle.search.specs.declared.Mark.{Mark}
 use Rattle.search.specs.declared.Best.{Best}
 
--- where a trial stands
+-- a state of 16 bits and an index of at most 88 as one number, and what a trial marks at a sample: its sum so far, and its state
+unfoldable pub key : State → ℕ
+key s = 128 * raised s.predictor + s.index
+
 abbrev pub mark_of : Trial → Mark
-mark_of t = record { sum = t.sum; state = t.state }
+mark_of t = record { sum = t.sum; key = key t.state }
 
 -- the marks of the trial from a start index, before each sample
 unfoldable pub marks_of : Settings → ℕ → List ℤ → ℕ → ℕ → List Mark

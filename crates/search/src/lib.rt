@@ -4,10 +4,10 @@
 ghost use Rattle.std.specs.Prelude.{◌≡◌, map, ◌+◌, ◌<◌, ◌≤◌, true, nat_abs, ◌-ℤ◌, length, MatchOption};
 ghost use Rattle.format.specs.Gain.{normalised, output_gain};
 ghost use Rattle.format.specs.Encode.{square, best_trial};
-ghost use Rattle.search.specs.Search.{Ran, Beaten, Beats, tie, start_at, Tried};
+ghost use Rattle.search.specs.Search.{key, Ran, Beaten, Beats, tie, start_at, Tried};
 
 use advance::Coder;
-use format::{Reached, State};
+use format::Reached;
 
 // How many starts are tried first, as bounds: normalised samples are loud, and want large steps.
 const BOUNDS: u8 = 4;
@@ -23,11 +23,12 @@ pub struct Fragment<'a> {
     ghost full_scale: { targets.now ≡ map (normalised volume) xs.now },
 }
 
-// Where a trial stands before a sample: its sum so far, and its state.
+// Where a trial stands before a sample: its sum so far, and its state. The state is one number, since to compare its two parts was
+// slower.
 #[derive(Clone, Copy)]
 struct Mark {
     sum: u64,
-    state: State,
+    key: u64,
 }
 
 // The best trial so far: its start index, its sum, and where it stood before each sample.
@@ -47,14 +48,18 @@ fn squared_error(sample: i16, state: Reached, volume: u8) -> u64
     d * d
 }
 
-// Whether a trial with this state and sum stands where the marked one stood, with no sum that wins against it.
-fn meets(mark: Mark, state: State, tie: u64, sum: u64) -> bool
-    ensures { result ≡ true → (mark.state ≡ state) × (mark.sum + tie ≤ sum) }
+// A state as one number.
+fn key_of(state: Reached) -> u64
+    ensures { result ≡ key state.state }
 {
-    mark.state.predictor == state.predictor
-        && mark.state.index == state.index
-        && tie <= sum
-        && mark.sum <= sum - tie
+    128 * (signed::raise(state.state.predictor) as u64) + state.state.index as u64
+}
+
+// Whether a trial with this key and sum stands where the marked one stood, with no sum that wins against it.
+fn meets(mark: &Mark, key: u64, tie: u64, sum: u64) -> bool
+    ensures { result ≡ true → (mark.now.key ≡ key) × (mark.now.sum + tie ≤ sum) }
+{
+    mark.key == key && tie <= sum && mark.sum <= sum - tie
 }
 
 // 1 where a sum equal to the best's wins, since its start is the lower, else 0: the sums below the best's with this added win.
@@ -73,7 +78,7 @@ fn whole_sum(coder: &Coder, fragment: Fragment, index: u8, trace: &mut [Mark; 63
     for i in 0..fragment.xs.len() {
         trace[i] = Mark {
             sum,
-            state: state.state,
+            key: key_of(state),
         };
         state = coder.next(state, fragment.targets[i]);
         sum += squared_error(fragment.xs[i], state, fragment.volume);
@@ -102,13 +107,11 @@ fn winning_sum(
         if limit <= sum {
             return None;
         }
-        if meets(best.marks[i], state.state, tie, sum) {
+        let key = key_of(state);
+        if meets(&best.marks[i], key, tie, sum) {
             return None;
         }
-        trace[i] = Mark {
-            sum,
-            state: state.state,
-        };
+        trace[i] = Mark { sum, key };
         state = coder.next(state, fragment.targets[i]);
         sum += squared_error(fragment.xs[i], state, fragment.volume);
     }
@@ -140,11 +143,7 @@ fn is_tried(turn: u8, index: u8) -> bool
 pub fn best_start(coder: &Coder, fragment: Fragment) -> u8
     ensures { result ≡ (best_trial coder.now.settings fragment.entry.volume fragment.entry.xs.now).start }
 {
-    let zero = Mark {
-        sum: 0,
-        state: Reached::zero().state,
-    };
-    let mut trace = [zero; 63];
+    let mut trace = [Mark { sum: 0, key: 0 }; 63];
     let index = start_of(0);
     let sum = whole_sum(coder, fragment, index, &mut trace);
     let mut best = Best {

@@ -27,7 +27,7 @@ returns-then-limit-sum c = stopped _ _ _ c.loop-i.invariant (omega (arith, c.if-
 pub returns-then-meets : goal.returns-then-meets
 returns-then-meets c =
     let m = c.meets.ensures c.if-meets.true in
-    met _ _ _ _ c.requires c.loop-i.invariant.summed (omega arith) m.0 (omega (arith, m.1, c.tie-tie.ensures))
+    met _ _ _ _ c.requires c.loop-i.invariant.summed (omega arith) c.key_of-key.ensures m.0 (omega (arith, m.1, c.tie-tie.ensures))
 
 pub loop-i-preserved : goal.loop-i-preserved
 loop-i-preserved c =
@@ -37,7 +37,7 @@ loop-i-preserved c =
     let f : SFits w16 (get_or a.targets.now i (pos 0)) = search rules in
     let e : SFits w16 (get_or a.xs.now i (pos 0)) = search rules in
     let y = ap (λ (l : List ℤ). get_or l i (pos 0)) a.full_scale ∙ map_at (normalised a.volume) a.xs.now i (pos 0) (pos 0) h in
-    traced_more _ _ _ c.loop-i.invariant (omega (arith, a.few))
+    traced_more _ _ _ c.loop-i.invariant (omega (arith, a.few)) c.key_of-key.ensures
     (summed_more _ _ _ _ c.loop-i.invariant.summed h refl y
     (rw (back16 _ f.sfits) at c.next-state.ensures)
     (rw (back16 _ e.sfits) at c.squared_error-sum.ensures.0)
