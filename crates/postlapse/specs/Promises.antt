@@ -39,6 +39,12 @@ pub record Plays (o : Outcome DecodedFragment) (s : State) (out : List ℤ) (ans
   pub state_after : state ≡ state_left s o
   pub output_left : output ≡ output_after (on_result (λ (r : DecodedFragment). r.samples) o) out
 
+-- the same before the answer is a struct
+pub record PlaysAs (o : Outcome DecodedFragment) (s : State) (out : List ℤ) (answer : Outcome ℕ) (state : State) (output : List ℤ) : Type 0 where
+  pub answered : answer ≡ on_result (λ (r : DecodedFragment). length r.samples) o
+  pub state_after : state ≡ state_left s o
+  pub output_left : output ≡ output_after (on_result (λ (r : DecodedFragment). r.samples) o) out
+
 -- the same where one struct has the answer and the state
 pub record PlaysByValue (o : Outcome DecodedFragment) (s : State) (out : List ℤ) (answer : FragmentAnswer) (output : List ℤ) : Type 0 where
   pub answered : answer ≡ with_state (answer_of (on_result (λ (r : DecodedFragment). length r.samples) o)) (state_left s o)

@@ -2,7 +2,7 @@
 #![tactic(auto)]
 
 ghost use Rattle.std.specs.Prelude.{◌≡◌, length};
-ghost use Rattle.outcome.specs.Outcome.{outcome_of, refused};
+ghost use Rattle.outcome.specs.Outcome.{outcome_of, refused, on_result, output_after};
 ghost use Rattle.format.specs.Decode.{moves};
 ghost use Rattle.format.specs.Inspect.{inspected, decode_call};
 ghost use Rattle.format.specs.Answers.{answered};
@@ -10,10 +10,9 @@ ghost use Rattle.wav_format.specs.Samples.{samples_call};
 ghost use Rattle.wav_format.specs.Wave.{read_wave, read_strict};
 ghost use Rattle.wav_writer.specs.Writer.{write_call};
 ghost use Rattle.postlapse.specs.Answers.{answer_of, header_answer_of, wave_answer_of};
-ghost use Rattle.postlapse.specs.Promises.{encode_for_c, fragment_for_c, Fills, Decodes, Plays, PlaysByValue};
+ghost use Rattle.postlapse.specs.Promises.{encode_for_c, fragment_for_c, Fills, Decodes, Plays, PlaysAs, PlaysByValue};
 
 use format::{Error, Header, State, Variant};
-use fragment::Decoded;
 use outcome::{Refusal, Values};
 use wav_format::Wave;
 
@@ -207,6 +206,7 @@ pub fn postlapse_decode(file: &[u8], out: &mut [i16]) -> HeaderAnswer
 }
 
 // Whether a call changes the channel's state: a result of versions 1 and 2.
+#[tactic(auto, using(crate::proofs::Laws::moves_below, crate::proofs::Laws::moves_from))]
 fn moves(version: u8, answer: &Result<usize, Error>) -> bool
     ensures { result ≡ moves version (answered answer.now) }
 {
@@ -214,12 +214,12 @@ fn moves(version: u8, answer: &Result<usize, Error>) -> bool
 }
 
 // Decodes one fragment of the variant that a byte names.
-fn play(version: u8, byte: u8, state: State, fragment: &[u8], out: &mut [i16]) -> Played
+fn play(version: u8, byte: u8, state: State, fragment: &[u8], out: &mut [i16]) -> fragment::Returned
     ensures { PlaysAs (fragment_for_c version byte state fragment.now (length out.old)) state out.old (answered result.answer) result.state out.new }
 {
     match Variant::try_from(byte) {
         Ok(variant) => fragment::decode_one(version, variant, state, fragment, out),
-        Err(error) => Played {
+        Err(error) => fragment::Returned {
             answer: Err(error),
             state,
         },

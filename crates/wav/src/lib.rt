@@ -35,7 +35,7 @@ fn shown(file: &[u8], answer: Result<Wave, WaveError>) -> &[u8]
 {
     match answer {
         Ok(w) => &file[w.samples.start..w.samples.start + w.samples.size],
-        Err(_) => &[],
+        Err(_) => &file[..0],
     }
 }
 
