@@ -1,0 +1,8 @@
+-- `records::put_printed` meets its contract. Assumes nothing.
+use Rattle.records.proofs.put_printed.Goals as goal
+
+pub slice_bounds-out-end : goal.slice_bounds-out-end
+slice_bounds-out-end g c = (c.requires.prints _ _ _ _ c.command-count.ensures).0
+
+pub slice_bounds-word-end : goal.slice_bounds-word-end
+slice_bounds-word-end g c = (c.requires.prints _ _ _ _ c.command-count.ensures).1

@@ -1,0 +1,68 @@
+ghost use Rattle.std.specs.Prelude.{◌≡◌, ◌≤◌, ◌<◌, length, replicate, take, drop, slice_index};
+ghost use Rattle.std.specs.Int.{from_le_bytes, w32, w64};
+
+use format::State;
+
+// What is left of a question: numbers, of which the lowest byte comes first, and then bytes.
+#[derive(Clone, Copy)]
+pub struct Question<'a> {
+    pub rest: &'a [u8],
+}
+
+impl<'a> Question<'a> {
+    // The next N bytes, and zeros where fewer are left.
+    fn chunk<const N: usize>(&mut self) -> [u8; N]
+        ensures bytes { N ≤ length self.old.rest.now → result ≡ take N self.old.rest.now }
+        ensures zeros { length self.old.rest.now < N → result ≡ replicate N 0 }
+        ensures rest { self.new.rest.now ≡ drop N self.old.rest.now }
+    {
+        match self.rest.split_first_chunk::<N>() {
+            Some((bytes, rest)) => {
+                self.rest = rest;
+                *bytes
+            }
+            None => {
+                self.rest = &[];
+                [0; N]
+            }
+        }
+    }
+
+    // The next byte, 0 where none is left.
+    pub fn byte(&mut self) -> u8
+        ensures value { result ≡ slice_index self.old.rest.now 0 }
+        ensures rest { self.new.rest.now ≡ drop 1 self.old.rest.now }
+    {
+        self.chunk::<1>()[0]
+    }
+
+    // The next number of four bytes, 0 where fewer are left.
+    pub fn word(&mut self) -> u32
+        ensures value { 4 ≤ length self.old.rest.now → result ≡ from_le_bytes w32 (take 4 self.old.rest.now) }
+        ensures rest { self.new.rest.now ≡ drop 4 self.old.rest.now }
+    {
+        u32::from_le_bytes(self.chunk())
+    }
+
+    // The next number of eight bytes, 0 where fewer are left.
+    pub fn long(&mut self) -> u64
+        ensures value { 8 ≤ length self.old.rest.now → result ≡ from_le_bytes w64 (take 8 self.old.rest.now) }
+        ensures rest { self.new.rest.now ≡ drop 8 self.old.rest.now }
+    {
+        u64::from_le_bytes(self.chunk())
+    }
+
+    // The next decoder's state: whether the predictor is negative, its magnitude, and the index. A predictor that is too large is the least.
+    pub fn state(&mut self) -> State {
+        let negative = self.byte() == 1;
+        let magnitude = self.long();
+        let predictor = match i64::try_from(magnitude) {
+            Ok(m) => i32::try_from(if negative { -m } else { m }).unwrap_or(i32::MIN),
+            Err(_) => i32::MIN,
+        };
+        State {
+            predictor,
+            index: self.long() as usize,
+        }
+    }
+}
