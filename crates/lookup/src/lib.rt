@@ -55,7 +55,7 @@ impl Tables {
 
     // A state, as the tables take it.
     pub fn keep(self, state: Reached) -> Kept
-        ensures { (result.tables ≡ self) × (state_of self.coding.variant result.point ≡ state.state) }
+        ensures { (result.variant ≡ self.coding.variant) × (state_of self.coding.variant result.point ≡ state.state) }
     {
         let state = state.state;
         let point = Point {
@@ -63,8 +63,26 @@ impl Tables {
             at: state.index * row_size(self.coding.variant),
         };
         Kept {
-            tables: self,
+            variant: self.coding.variant,
             point,
+        }
+    }
+
+    // Internal: the state after a code. The next row is read from the table's rest behind the code, so that it waits for the row
+    // alone.
+    pub fn step(self, kept: Kept, code: u8) -> Kept
+        requires { (kept.variant ≡ self.coding.variant) × (code < 2 ^ bits self.coding.variant) }
+        ensures { (result.variant ≡ self.coding.variant)
+            × (state_of self.coding.variant result.point ≡ stepped self.coding.version self.coding.variant (state_of self.coding.variant kept.point) code) }
+    {
+        let from = kept.point.at;
+        let code = code as usize;
+        let depth = move_depth(kept.point.depth, self.differences[from + code]);
+        let rest = &self.nexts[code..];
+        let at = rest[from] as usize;
+        Kept {
+            variant: self.coding.variant,
+            point: Point { depth, at },
         }
     }
 }
@@ -79,44 +97,25 @@ pub struct Point {
 // A state that a decoding reaches, as the tables of its coding take it.
 #[derive(Clone, Copy)]
 pub struct Kept {
-    pub tables: Tables,
+    pub variant: Variant,
     pub point: Point,
-    ghost held: { Held tables.coding.variant point },
+    ghost held: { Held variant point },
 }
 
 impl Kept {
-    // Internal: the state after a code. The next row is read from the table's rest behind the code, so that it waits for the row
-    // alone.
-    pub fn step(self, code: u8) -> Kept
-        requires { code < 2 ^ bits self.tables.coding.variant }
-        ensures { (result.tables ≡ self.tables)
-            × (state_of self.tables.coding.variant result.point ≡ stepped self.tables.coding.version self.tables.coding.variant (state_of self.tables.coding.variant self.point) code) }
-    {
-        let tables = self.tables;
-        let from = self.point.at;
-        let code = code as usize;
-        let depth = move_depth(self.point.depth, tables.differences[from + code]);
-        let rest = &tables.nexts[code..];
-        let at = rest[from] as usize;
-        Kept {
-            tables,
-            point: Point { depth, at },
-        }
-    }
-
     // How far the predictor lies below 32767.
     pub fn depth(self) -> u16
-        ensures { result ≡ depth (state_of self.tables.coding.variant self.point).predictor }
+        ensures { result ≡ depth (state_of self.variant self.point).predictor }
     {
         self.point.depth as u16
     }
 
     // The state, as the tables gave it.
     pub fn state(self) -> Reached
-        ensures { result.state ≡ state_of self.tables.coding.variant self.point }
+        ensures { result.state ≡ state_of self.variant self.point }
     {
         let predictor = signed::at_depth(self.point.depth) as i32;
-        let index = self.point.at / row_size(self.tables.coding.variant);
+        let index = self.point.at / row_size(self.variant);
         Reached {
             state: State { predictor, index },
         }

@@ -1,1 +1,3 @@
+pub mod Lanes
 pub mod Running
+pub mod Unpacking

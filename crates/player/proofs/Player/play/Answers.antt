@@ -1,0 +1,68 @@
+-- `player::Player::play` meets its contract. Assumes nothing.
+use native.Mathlib.Omega.{arith}
+use Prim.Native.Nat.{◌/◌, ◌≤◌, ◌<◌}
+use mathlib.Core.Path.{sym, ◌∙◌}
+use mathlib.Core.List.{[]}
+use Rattle.format.specs.Layout.{frame_samples}
+use Rattle.format.proofs.Sizes.{count_whole}
+use Rattle.fragment_core.proofs.Fragments.{codes_small}
+use Rattle.format.specs.declared.Reached.{Reached}
+use Rattle.std.proofs.lemmas.List.{get_or_read, get_or-replicate}
+use Rattle.player.proofs.Running.{played}
+use Rattle.player.proofs.Lanes.{each_more, places_few}
+use Rattle.player.proofs.Player.play.Goals as goal
+
+pub overflow_add-p : goal.overflow_add-p
+overflow_add-p g c = omega (arith, places_few c.args.self.stream.header (omega arith) (omega arith))
+
+pub loop-k-preserved : goal.loop-k-preserved
+loop-k-preserved g c =
+    let r = c.index-states-k in
+    let same = λ (d : Reached). sym r.is ∙ get_or_read c.args.states c.loop-k.k r.result (omega arith) r.is d in
+    each_more _ c.loop-k.invariant c.loop-k-test.true (λ d. rw (← same d) c.start.ensures)
+
+pub run-requires : goal.run-requires
+run-requires g c =
+    let t = c.args.self.tables.coding in
+    let few = places_few c.args.self.stream.header (omega arith) (omega arith) in
+    let each = c.loop-k.invariant.each in (
+      omega arith,
+      (
+        omega arith,
+        (
+          omega arith,
+          (
+            c.samples_at-n.ensures.1,
+            (
+              λ k l d. (each k (omega arith) [] d c.zero.result).variant_is,
+              (
+                λ k i l. codes_small t.version t.variant _ (each k (omega arith) [] c.keep-lanes.result c.zero.result).codes_are i,
+                λ k l. rw get_or-replicate,
+              ),
+            ),
+          ),
+        ),
+      ),
+    )
+
+pub overflow_add-p-in-loop-k-2 : goal.overflow_add-p-in-loop-k-2
+overflow_add-p-in-loop-k-2 g c = omega (arith, places_few c.args.self.stream.header (omega arith) (omega arith))
+
+pub loop-k-2-preserved : goal.loop-k-2-preserved
+loop-k-2-preserved g c =
+    let a = c.args in
+    let h = a.self.stream.header in
+    let k = c.loop-k-2.k in
+    let l : k < g.row.N = c.loop-k-2-test.true in
+    let r = c.index-states-k-in-loop-k-2 in
+    let same = λ (d : Reached). sym r.is ∙ get_or_read a.states k r.result (omega arith) r.is d in
+    let few : c.samples_at-n.result ≤ frame_samples a.self.tables.coding.version =
+    rw (c.samples_at-n.ensures.0, a.self.same_version) (count_whole h (a.p / h.channels)) in
+    let lane = c.index-lanes-k-in-loop-k-2.result in
+    let started = c.loop-k.invariant.each k (omega arith) [] lane r.result in
+    let ran = c.run.ensures.each k l lane in
+    let p = played few started ran c.finish.ensures a.self.same_version a.self.same_variant c.samples_at-n.ensures.0 in
+    each_more _ c.loop-k-2.invariant l (λ d. rw (← same d) (record { state = p.0; samples_are = p.1 }))
+
+pub returns : goal.returns
+returns g c = λ k l d. c.loop-k-2.invariant.each k (omega arith) d [] d
