@@ -1,21 +1,7 @@
 -- `adpcm::update` meets its contract. Assumes nothing.
-use native.Mathlib.Omega.{arith}
-use Rattle.signed.proofs.Laws.{back32, abs16, read16, clamp_fits, clamp_to_le}
+use Rattle.signed.proofs.Laws.{back32, read16, clamp_fits, clamp_to_le}
 use Rattle.format.specs.Step.{unclamped_predictor, unclamped_index, stepped}
 use Rattle.adpcm.proofs.update.Goals as goal
-
-pub add_clamp16-predictor-requires : goal.add_clamp16-predictor-requires
-add_clamp16-predictor-requires c =
-    let s = c.args.state in
-    let d = c.delta-difference in
-    rw (read16 s.state.predictor s.in_range.predictor, back32 d.result d.type_inv)
-    (omega (arith, abs16 s.state.predictor s.in_range.predictor, d.ensures.1))
-
-pub add_clamp_to-index-requires : goal.add_clamp_to-index-requires
-add_clamp_to-index-requires c =
-    let a = c.adjustment-adjustment in
-    rw (back32 a.result a.type_inv)
-    (omega (arith, c.args.state.in_range.index, a.ensures.1), omega arith)
 
 pub invariant_of-result : goal.invariant_of-result
 invariant_of-result c =

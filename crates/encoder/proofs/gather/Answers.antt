@@ -1,4 +1,4 @@
-use mathlib.Core.Path.{◌≡◌, refl}
+use mathlib.Core.Path.{refl}
 use native.Mathlib.Omega.{arith}
 use borrow.Author.Rules.{rules}
 use mir.Syntax.{w16}
@@ -21,21 +21,6 @@ pub loop-w-init : goal.loop-w-init
 unfolding tabulate
 loop-w-init c = (refl, refl)
 
-pub overflow_add-j : goal.overflow_add-j
-overflow_add-j c = let p = spot (goal.at.overflow_add-j c).In-loop-w in search rules
-
-pub overflow_mul-j : goal.overflow_mul-j
-overflow_mul-j c = let p = spot (goal.at.overflow_mul-j c).In-loop-w in search rules
-
-pub overflow_add-j-in-loop-w : goal.overflow_add-j-in-loop-w
-overflow_add-j-in-loop-w c = let p = spot (goal.at.overflow_add-j-in-loop-w c).In-loop-w in search rules
-
-pub offset_bounds-pcm-j : goal.offset_bounds-pcm-j
-offset_bounds-pcm-j c = let p = spot (goal.at.offset_bounds-pcm-j c).In-loop-w in search rules
-
-pub bounds-pcm-j : goal.bounds-pcm-j
-bounds-pcm-j c = let p = spot (goal.at.bounds-pcm-j c).In-loop-w in search rules
-
 pub loop-w-preserved : goal.loop-w-preserved
 loop-w-preserved c =
     let p = spot (goal.at.loop-w-preserved c).In-loop-w in
@@ -43,8 +28,3 @@ loop-w-preserved c =
       simp length-set c.loop-w.invariant.0,
       fill_next _ _ _ _ (omega (arith, c.loop-w.invariant.0)) c.loop-w.invariant.1 (back16 _ e.sfits),
     )
-
-pub returns : goal.returns
-returns c =
-    let e : c.loop-w.w ≡ c.args.n = omega arith in
-    rw (← e) c.loop-w.invariant.1

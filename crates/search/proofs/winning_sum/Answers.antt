@@ -12,14 +12,11 @@ use Rattle.lists.proofs.ByIndex.{map_at}
 use Rattle.signed.proofs.Laws.{back16}
 use Rattle.format.specs.Gain.{normalised}
 use Rattle.search.proofs.Summed.{summed_none, summed_more}
-use Rattle.search.proofs.Meeting.{traced_none, traced_more, stopped, ran, met}
+use Rattle.search.proofs.Meeting.{traced_none, traced_more, stopped, met}
 use Rattle.search.proofs.winning_sum.Goals as goal
 
 pub loop-i-init : goal.loop-i-init
 loop-i-init c = traced_none _ _ _ (summed_none _ _ _ _ c.fragment_start-state.ensures) c.told-trace
-
-pub overflow_add-sum : goal.overflow_add-sum
-overflow_add-sum c = omega (arith, c.loop-i.invariant.summed.small, c.squared_error-sum.ensures.1, c.args.fragment.few)
 
 pub returns-then-limit-sum : goal.returns-then-limit-sum
 returns-then-limit-sum c = stopped _ _ _ c.loop-i.invariant (omega (arith, c.if-limit-sum.true, c.tie-tie.ensures))
@@ -42,9 +39,3 @@ loop-i-preserved c =
     (rw (back16 _ f.sfits) at c.next-state.ensures)
     (rw (back16 _ e.sfits) at c.squared_error-sum.ensures.0)
     c.squared_error-sum.ensures.1)
-
-pub returns-then-sum-limit : goal.returns-then-sum-limit
-returns-then-sum-limit c = record { ran = ran _ _ _ c.args.fragment.few c.loop-i.invariant (omega arith); less = omega (arith, c.tie-tie.ensures) }
-
-pub returns-else-sum-limit : goal.returns-else-sum-limit
-returns-else-sum-limit c = stopped _ _ _ c.loop-i.invariant (omega (arith, c.if-sum-limit.false, c.tie-tie.ensures))

@@ -11,7 +11,7 @@ use lib.ListN.{length, get_or, length-map}
 use Rattle.lists.proofs.ByIndex.{map_at}
 use Rattle.signed.proofs.Laws.{back16}
 use Rattle.format.specs.Gain.{normalised}
-use Rattle.trial.proofs.Tried.{tried_none, tried_more, tried_all}
+use Rattle.trial.proofs.Tried.{tried_none, tried_more}
 use Rattle.trial.proofs.codes_from.Goals as goal
 
 pub loop-i-init : goal.loop-i-init
@@ -28,9 +28,3 @@ loop-i-preserved c =
     tried_more _ _ _ _ c.loop-i.invariant (omega (arith, a.few)) y
     (rw (back16 _ f.sfits) at c.encode_code-code.ensures.0)
     c.update-state.ensures
-
-pub returns : goal.returns
-returns c =
-    let a = c.args.fragment in
-    let n : length a.targets.now ≡ length a.xs.now = rw length-map at (ap length a.full_scale) in
-    tried_all _ _ _ _ c.loop-i.invariant (omega arith)

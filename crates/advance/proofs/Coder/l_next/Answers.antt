@@ -40,16 +40,6 @@ known c =
     (omega (arith, c.part_of.ensures.0, c.part_of-2.ensures.0, c.part_of-3.ensures.0))
     (rw (c.pick-offset.ensures, c.pick-2.ensures, c.pick.ensures))
 
-pub l_landed-requires : goal.l_landed-requires
-l_landed-requires c =
-    let m = c.room-limit.ensures in
-    let v = (known (goal.at.l_landed-requires c).After-pick-offset).value in (
-      c.raise-p.ensures.1,
-      omega (arith, c.abs_diff-twice.ensures, c.raise-p.ensures.1, c.raise-x.ensures.1),
-      (λ l. omega (arith, v, m.0 l)),
-      (λ l. omega (arith, v, m.1 l)),
-    )
-
 pub returns : goal.returns
 returns c =
     let m = c.room-limit.ensures in

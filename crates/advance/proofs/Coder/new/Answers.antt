@@ -1,6 +1,6 @@
 -- `advance::Coder::new` meets its contract. Assumes nothing.
 use Rattle.std.proofs.Common.{refl, arith}
-use Rattle.lists.proofs.ByIndex.{filled_none, filled_more, filled_all}
+use Rattle.lists.proofs.ByIndex.{filled_none, filled_more}
 use Rattle.advance.proofs.Coder.new.Goals as goal
 
 pub loop-k-init : goal.loop-k-init
@@ -8,6 +8,3 @@ loop-k-init c = filled_none _ _ refl
 
 pub loop-k-preserved : goal.loop-k-preserved
 loop-k-preserved c = filled_more _ _ c.loop-k.invariant (omega arith) (rw (c.l_size.ensures.0, c.level-level.ensures.0, c.step_size-step.ensures.0))
-
-pub invariant_of-result : goal.invariant_of-result
-invariant_of-result c = record { sized = filled_all _ _ c.loop-k.invariant (omega arith) }
