@@ -13,7 +13,7 @@ use layout::Stream;
 use outcome::{Refusal, Values};
 use text::Printer;
 
-// Internal: the numbers that a refusal returns, each after a space.
+// The numbers that a refusal returns, each after a space.
 fn values(page: &mut Printer, values: Values)
     ensures prints { Printed page.old (spaced_values (listed values)) page.new }
     ensures short { length (spaced_values (listed values)) ≤ 42 }

@@ -2,14 +2,14 @@
 use mathlib.Core.Path.{◌≡◌, refl, sym, ap, ◌∙◌}
 use mathlib.Core.List.{List, [], ◌∷◌, ◌++◌, append_assoc, append-nil}
 use Prim.Native.Nat.{ℕ, zero, suc, ◌+◌, ◌-◌, ◌/◌, ◌%◌, ◌^◌, ◌≤◌, ◌<◌, min}
-use native.Mathlib.Nat.{sub-zero, zero-sub, add-zero, add_assoc, pow-suc, one-le-pow, mod-lt, div-lt_iff_lt-mul, le-div_iff_mul-le}
+use native.Mathlib.Nat.{sub-zero, zero-sub, add-zero, add_assoc, pow-suc}
 use native.Mathlib.Omega.{arith}
 use lib.ListN.{length, take, drop, length-append, length-take, length-drop, take-append-drop}
 use lib.Seq.{take_at, drop-drop, drop-append-add, length-take-le, take-nil, take_all}
 use Rattle.std.proofs.lemmas.List.{take_min}
-use borrow.Author.Tests.{lt-ltb}
 use Rattle.digits.proofs.Laws.{part_put}
-use Rattle.io.specs.Digits.{last_digits, IsDigitCount}
+use Rattle.std.specs.Fmt as std
+use Rattle.std.proofs.lemmas.Fmt.{decimal_from_appends, length-decimal-le}
 use Rattle.text.specs.Text.{letters, digits_of, decimal, written, Put}
 use Rattle.text.specs.Printer.{Printed}
 use Rattle.text.specs.declared.Printer.{Printer}
@@ -21,55 +21,45 @@ many : (k : ℕ) → k < 10 ^ k
 many zero = omega arith
 many (suc k) = rw (pow-suc 10 k) (omega (arith, many k))
 
--- n takes k digits, or more
-abbrev Takes : ℕ → ℕ → Type 0
-Takes zero n = Unit {0}
-Takes (suc k) n = 10 ^ k ≤ n
+-- a number's digits by their count, of which 0 has one
+by_count : ℕ → ℕ → List ℕ
+by_count k zero = letters "0"
+by_count k (suc n) = digits_of k (suc n)
 
-tenth : (k : ℕ) {n : ℕ} → Takes (suc k) n → Takes k (n / 10)
-tenth zero t = tt
-tenth (suc k) {n} t = (le-div_iff_mul-le {k = 10} (omega arith)).1 (rw pow-suc at t)
-
-same_digits : (k j n : ℕ) → n < 10 ^ k → Takes k n → k ≤ j → last_digits 10 k n ≡ digits_of j n
+none_left : (k : ℕ) → digits_of k 0 ≡ []
 unfolding digits_of
-same_digits zero zero n a t l = refl
-same_digits zero (suc j) zero a t l = refl
-same_digits zero (suc j) (suc n) a t l = let z : ⊥ = omega arith in absurd z
-same_digits (suc k) zero n a t l = let z : ⊥ = omega arith in absurd z
-same_digits (suc k) (suc j) zero a t l = let z : ⊥ = omega (arith, one-le-pow k 10 (omega arith)) in absurd z
-same_digits (suc k) (suc j) (suc n) a t l =
-    let below : suc n / 10 < 10 ^ k = (div-lt_iff_lt-mul {k = 10} (omega arith)).1 (rw pow-suc at a) in
-    let last : suc n % 10 < 10 = mod-lt (suc n) (omega arith) in
-    rw (same_digits k j (suc n / 10) below (tenth k t) (omega arith), lt-ltb _ _ last) refl
+none_left zero = refl
+none_left (suc k) = refl
 
-takes : (n k : ℕ) → IsDigitCount 10 1 n (suc (suc k)) → 10 ^ suc k ≤ n
-takes n k f = let e : suc (suc k) - 1 ≡ suc k = omega arith in rw e at (f.2 (omega arith))
+above_0 : (k n : ℕ) → 0 < n → by_count k n ≡ digits_of k n
+unfolding by_count
+above_0 k zero h = let z : ⊥ = omega arith in absurd z
+above_0 k (suc n) h = refl
 
--- what the library spells is the decimal number
-pub spelled : (n k : ℕ) → IsDigitCount 10 1 n k → last_digits 10 k n ≡ decimal n
-unfolding decimal letters
-spelled n zero f = let z : ⊥ = omega (arith, f.0) in absurd z
-spelled zero (suc zero) f = refl
-spelled zero (suc (suc k)) f = let t = takes zero k f in let z : ⊥ = omega (arith, one-le-pow (suc k) 10 (omega arith)) in absurd z
-spelled (suc n) (suc zero) f = same_digits 1 (suc n) (suc n) f.1 (omega arith) (omega arith)
-spelled (suc n) (suc (suc k)) f =
-    let t = takes (suc n) k f in
-    same_digits (suc (suc k)) (suc n) (suc n) f.1 t (omega (arith, many (suc k)))
+one_digit : (k n : ℕ) → n < 10 → by_count (suc k) n ≡ (48 + n) ∷ []
+unfolding by_count digits_of letters
+one_digit k zero h = refl
+one_digit k (suc n) h =
+    let front : suc n / 10 ≡ 0 = omega arith in
+    let last : suc n % 10 ≡ suc n = omega arith in
+    rw (front, last, none_left k) refl
+
+more_digits : (k n : ℕ) → 10 ≤ n → by_count (suc k) n ≡ by_count k (n / 10) ++ ((48 + n % 10) ∷ [])
+unfolding by_count digits_of
+more_digits k zero h = let z : ⊥ = omega arith in absurd z
+more_digits k (suc n) h = let some : 0 < suc n / 10 = omega arith in rw (above_0 k (suc n / 10) some) refl
+
+-- what the library prints is the decimal number
+pub spelled : (n : ℕ) → n < 2 ^ 64 → std.decimal n ≡ decimal n
+unfolding decimal letters by_count std.digits
+spelled zero h = refl
+spelled (suc n) h =
+    let short = length-decimal-le (suc n) (suc n) (omega arith) (many (suc n)) h in
+    sym (decimal_from_appends by_count (record { one = one_digit; more = more_digits }) (suc n) (suc n) h short)
 
 -- a number of 64 bits has at most 20 digits
-digits_few : (k j n : ℕ) → n < 10 ^ k → length (digits_of j n) ≤ k
-unfolding digits_of
-digits_few k zero n a = omega arith
-digits_few k (suc j) zero a = omega arith
-digits_few zero (suc j) (suc n) a = let z : ⊥ = omega arith in absurd z
-digits_few (suc k) (suc j) (suc n) a =
-    let below : suc n / 10 < 10 ^ k = (div-lt_iff_lt-mul {k = 10} (omega arith)).1 (rw pow-suc at a) in
-    simp length-append (omega (arith, digits_few k j (suc n / 10) below))
-
 pub decimal_few : (n : ℕ) → n < 2 ^ 64 → length (decimal n) ≤ 20
-unfolding decimal letters
-decimal_few zero h = omega arith
-decimal_few (suc n) h = digits_few 20 (suc n) (suc n) (omega arith)
+decimal_few n h = rw (← (spelled n h)) (length-decimal-le 20 n (omega arith) (omega arith) h)
 
 -- ---- texts one behind the other
 

@@ -4,6 +4,8 @@
 ghost use Rattle.std.specs.Prelude.{◌≡◌, ◌++◌, ◌≤◌, length, take};
 ghost use Rattle.text.specs.Text.{decimal};
 
+use itoa::Buffer;
+
 // A lent output, and the place in it where the next piece goes. What does not fit is left out.
 #[derive(Drop)]
 pub struct Printer<'a> {
@@ -51,9 +53,8 @@ impl<'a> Printer<'a> {
     pub fn number(&mut self, n: u64)
         ensures { Printed self.old (decimal n) self.new }
     {
-        let mut digits = [0u8; 20];
-        let count = io::decimal(n, &mut digits);
-        self.word(&digits[..count]);
+        let mut buffer = Buffer::new();
+        self.word(buffer.format(n).as_bytes());
     }
 
     // A word and a decimal number.
