@@ -1,5 +1,3 @@
-ghost use Rattle.std.specs.Prelude.{◌≡◌, ◌≤◌, length};
-
 use crate::{Question, front};
 use commands::{READ, ROOM};
 use std::fs::File;
