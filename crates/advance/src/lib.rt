@@ -125,10 +125,7 @@ impl Coder {
     pub fn new(settings: Settings) -> Coder
         ensures { result.settings ≡ settings }
     {
-        let coding = Coding {
-            version: format::VERSION,
-            variant: settings.variant,
-        };
+        let coding = Coding::written(settings.variant);
         let mut sizes = [0u32; 356];
         for (k, size) in sizes.iter_mut().enumerate() {
             let level = adpcm::level(coding, (k % 4) as u8);

@@ -11,10 +11,7 @@ use format::{Coding, Reached, Variant};
 fn error_of(variant: Variant, state: Reached, input: i16, code: u8) -> u32
     ensures { result ≡ (choice variant state.state input code).error }
 {
-    let coding = Coding {
-        version: format::VERSION,
-        variant,
-    };
+    let coding = Coding::written(variant);
     let before = state.state;
     let difference = adpcm::delta(coding, before.index, code);
     let candidate = signed::add_clamp16(before.predictor, difference);

@@ -65,10 +65,7 @@ fn put_fragments(coder: &Coder, pcm: &[i16], channels: usize, out: &mut [u8])
         × (16 + rounded_up (length pcm.now / channels) 63 * channels * fragment_size 3 coder.now.settings.variant ≤ length out.old) }
     ensures { out.new ≡ put_after (take 16 out.old) 16 (fragment_for coder.now.settings pcm.now channels) (fragment_size 3 coder.now.settings.variant) out.old (rounded_up (length pcm.now / channels) 63 * channels) }
 {
-    let coding = Coding {
-        version: format::VERSION,
-        variant: coder.settings.variant,
-    };
+    let coding = Coding::written(coder.settings.variant);
     let size = coding.fragment_size();
     let total = pcm.len() / channels;
     let places = (total + 62) / 63 * channels;

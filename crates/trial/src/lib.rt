@@ -40,10 +40,7 @@ fn codes_from(settings: Settings, fragment: Fragment, index: u8) -> [u8; 63]
     ensures { take (length fragment.entry.xs.now) result ≡ (trial_to settings fragment.entry.volume fragment.entry.xs.now index (length fragment.entry.xs.now)).codes }
 {
     let variant = settings.variant;
-    let coding = Coding {
-        version: format::VERSION,
-        variant,
-    };
+    let coding = Coding::written(variant);
     let mut state = Reached::fragment_start(index);
     let mut codes = [0u8; 63];
     for (i, target) in fragment.targets.iter().enumerate() {

@@ -27,4 +27,4 @@ loop-i-preserved c =
     let y = ap (λ (l : List ℤ). get_or l i (pos 0)) a.full_scale ∙ map_at (normalised a.volume) a.xs.now i (pos 0) (pos 0) h in
     tried_more _ _ _ _ c.loop-i.invariant (omega (arith, a.few)) y
     (rw (back16 _ f.sfits) at c.encode_code-code.ensures.0)
-    c.update-state.ensures
+    (rw c.written-coding.ensures at c.update-state.ensures)
