@@ -10,7 +10,6 @@ use lib.IntN.{ℤ}
 use lib.ListN.{length, take, length-take, length-drop}
 use lib.Seq.{take_all}
 use native.Mathlib.Decide.{dec_lt}
-use mathlib.Core.Logic.{inr}
 use borrow.Author.Tests.{le-ltb, eq-eqb, eqb-true}
 use Rattle.outcome.specs.Outcome.{result, Refusing}
 use Rattle.outcome.proofs.Flags.{either_elim}
@@ -26,7 +25,7 @@ use Rattle.wav_format.proofs.Within.{samples_within}
 use Rattle.wav_samples.proofs.Samples.{length_samples}
 use Rattle.commands.specs.Commands.{encode_whole, encode_wave, converted, reported}
 use Rattle.commands.specs.declared.TheConstants.{READ}
-use Rattle.commands.proofs.Printing.{size_refused, stream_too_long}
+use Rattle.commands.proofs.Printing.{long_refused, stream_too_long}
 use Rattle.commands.specs.Cases.{pinned}
 use Rattle.commands.proofs.Checks.{pinned_hold}
 
@@ -91,9 +90,7 @@ module _ (input : List ℕ) where
   convert_reads_enough = go (dec_lt 65536 (length input))
     where
       go : Dec (65536 < length input) → converted (take READ input) ≡ converted input
-      go (yes more) =
-          let m = read_more more in
-          sym (size_refused (take READ input) (inr (omega arith, m))) ∙ size_refused input (inr (omega arith, more))
+      go (yes more) = sym (long_refused (take READ input) (read_more more)) ∙ long_refused input more
       go (no few) = ap converted (read_all (omega arith))
 
   pub report_reads_enough : reported (take READ input) ≡ reported input

@@ -41,7 +41,6 @@ use Rattle.std.proofs.lemmas.Result.{err_from_is_err_and}
 use Rattle.format.specs.Answers.{AsEncoded}
 use Rattle.format.specs.declared.Error.{Error}
 use Rattle.digits.proofs.Laws.{tail_all}
-use mathlib.Core.Logic.{◌⊎◌, inl, inr}
 use Rattle.commands.specs.Commands.{printed, encode_whole, encode_wave, converted, report, reported}
 use Rattle.lines.specs.Lines.{refusal_line}
 
@@ -152,10 +151,13 @@ module _ {k : Settings} {pcm : List ℤ} {channels rate : ℕ} {out output : Lis
 -- ---- the programs' own checks
 
 module _ (input : List ℕ) where
-  pub size_refused : (length input < 2) ⊎ ((2 ≤ length input) × (65536 < length input)) → refused 38 [] ≡ converted input
+  pub short_refused : length input < 2 → refused 38 [] ≡ converted input
   unfolding converted
-  size_refused (inl short) = search checks depth 12
-  size_refused (inr long) = clear _ _ _ _ _ (le-ltb (length input) 2 (omega arith)) (search checks depth 12)
+  short_refused short = search checks depth 12
+
+  pub long_refused : 65536 < length input → refused 38 [] ≡ converted input
+  unfolding converted
+  long_refused long = clear _ _ _ _ _ (le-ltb (length input) 2 (omega arith)) (search checks depth 12)
 
   module _ (two : 2 ≤ length input) (few : length input ≤ 65536) where
     pub variant_refused : {n : ℕ} {vs : List ℕ} → refused n vs ≡ variant_of (get_or input 0 0) → refused n vs ≡ converted input

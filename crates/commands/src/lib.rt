@@ -132,15 +132,16 @@ fn inspect(input: &[u8], out: &mut [u8; ROOM]) -> Result<usize, Refused>
 fn encode(input: &[u8], out: &mut [u8; ROOM]) -> Result<usize, Refused>
     ensures { Gives (converted input.now) out.old result out.new }
 {
-    if input.len() < 2 || MOST < input.len() {
+    let [variant, gain, file @ ..] = input else {
+        return Err(Refused::Size);
+    };
+    if MOST < input.len() {
         return Err(Refused::Size);
     }
-    let variant = Variant::try_from(input[0])?;
     let settings = Settings {
-        variant,
-        gain: input[1],
+        variant: Variant::try_from(*variant)?,
+        gain: *gain,
     };
-    let file = &input[2..];
     let wave = wav::read_pcm16_wave(file)?;
     let mut pcm = [0i16; SAMPLES];
     let count = wav_samples::load_samples(wav::wave_samples(file), &mut pcm)?;
