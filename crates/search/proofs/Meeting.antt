@@ -67,12 +67,6 @@ module _ (k : Settings) (v : ℕ) (xs : List ℤ) where
           marked = fill_next (λ i. mark_of (trial_to k v xs index i)) trace i (record { sum = sum; key = key' }) (omega (arith, d.room)) d.marked (rw (e, d.summed.state, d.summed.total));
         }
 
-    pub ran : {i : ℕ} {s : State} {sum : ℕ} {trace : List Mark} → length xs ≤ 63 → Traced index i s sum trace → length xs ≤ i
-        → Ran k v xs (record { index = index; sum = sum; marks = trace })
-    ran {i} few d h =
-        let e : i ≡ length xs = omega (arith, d.summed.within) in
-        record { sum = rw e at d.summed.total; small = omega (arith, d.summed.small, d.summed.within); marked = rw e at d.marked }
-
     -- the sum so far is at most the whole
     pub stopped : {i sum : ℕ} {s : State} {trace : List Mark} {b : Best} → Traced index i s sum trace → b.sum + tie index b.index ≤ sum
         → Beaten k v xs index b

@@ -4,7 +4,6 @@ use mathlib.Core.List.{List, [], ◌∷◌, ◌++◌}
 use Prim.Native.Nat.{ℕ, ◌-◌, ◌≤◌}
 use native.Mathlib.Omega.{arith}
 use lib.ListN.{length, take, drop, set, length-set}
-use borrow.Rule.Slice.PartMut.{same_len_mid}
 use Rattle.digits.proofs.Laws.{tail_length, tail_put}
 
 front : (l : List ℕ) (v i : ℕ) → 2 ≤ length l → take 2 (set (set l 0 v) 1 i) ≡ v ∷ i ∷ []
@@ -24,7 +23,3 @@ module _ (l : List ℕ) (v i : ℕ) where
 
   pub rest_put : 2 ≤ length l → {y z : List ℕ} → y ≡ z → take 2 stored ++ (y ++ drop (length stored - 2) (drop 2 stored)) ≡ v ∷ i ∷ z
   rest_put h {y} {z} e = tail_put 2 stored e ∙ ap (◌++ z) (front l v i h)
-
-  pub rest_same : (y : List ℕ) → length y ≡ length (take (length stored - 2) (drop 2 stored))
-      → length (take 2 stored ++ (y ++ drop (length stored - 2) (drop 2 stored))) ≡ length l
-  rest_same y e = same_len_mid 2 (length stored - 2) stored y e ∙ length_stored

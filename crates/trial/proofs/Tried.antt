@@ -36,7 +36,3 @@ module _ (k : Settings) (v : ℕ) (xs : List ℤ) (index : ℕ) where
         room = rw length-set d.room;
         coded = rw (add-one, take-suc-set codes i code, d.coded, ec, ey, d.state);
       }
-
-  pub tried_all : {i : ℕ} {s : State} {codes : List ℕ} → Tried i s codes → i ≡ length xs
-      → take (length xs) codes ≡ (trial_to k v xs index (length xs)).codes
-  tried_all d e = rw e at d.coded
