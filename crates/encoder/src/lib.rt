@@ -59,7 +59,8 @@ fn gather(pcm: &[i16], first: usize, channels: usize, channel: usize, n: usize) 
     r
 }
 
-// Internal: the fragments of an encoding, in file order, behind the 16 bytes of the header.
+// Internal: the fragments of an encoding, in file order, behind the 16 bytes of the header. Each part of the output is lent by its
+// place, since a proof doesn't know what `chunks_exact_mut` leaves.
 fn put_fragments(coder: &Coder, pcm: &[i16], channels: usize, out: &mut [u8])
     requires { (0 < channels) × (channels ≤ 255) × (length pcm.now / channels ≤ 4294967295)
         × (16 + rounded_up (length pcm.now / channels) 63 * channels * fragment_size 3 coder.now.settings.variant ≤ length out.old) }

@@ -1,5 +1,5 @@
--- The loop over the starts: the best of the starts of the turns so far, and one turn more, with a new best or without; and a start
--- that was tried before. Assumes nothing.
+-- The loop over the starts: the best of the starts of the turns so far, and of all turns; and a start that was tried before. Assumes
+-- nothing.
 use mathlib.Core.Path.{◌≡◌, refl, sym, ◌∙◌, ap}
 use mathlib.Core.List.{List}
 use Prim.Native.Nat.{ℕ, zero, suc, ◌+◌, ◌-◌, ◌/◌, ◌%◌, ◌≤◌, ◌<◌}
