@@ -30,7 +30,7 @@ fn quotient(m: u16, gain: u8, half: u32) -> u16
 }
 
 // Internal: x * gain / 255 on the magnitude, the sign kept: cut toward zero where `half` is 0, to nearest where it is 127.
-fn scaled(x: i16, gain: u8, half: u32) -> i16
+pub fn scaled(x: i16, gain: u8, half: u32) -> i16
     requires { half ≤ 127 }
     ensures { result ≡ with_sign (is_neg x) ((unsigned_abs x * gain + half) / 255) }
 {
@@ -82,7 +82,7 @@ pub fn normalize(sample: i16, volume: u8) -> i16
 }
 
 // What `scaled` adds before it divides, for the output gain of a version (output_scaled in proofs/Laws).
-fn rounding(coding: Coding) -> u32
+pub fn rounding(coding: Coding) -> u32
     ensures { (result ≡ rounding coding.version) × (result ≤ 127) }
 {
     if coding.starts_anew() { 127 } else { 0 }

@@ -44,9 +44,11 @@ module _ (k : Settings) (v : ℕ) (xs : List ℤ) where
     pub least : (t : ℕ) → t < turn → b.sum ≤ sum_from (start_at t)
     pub lowest : (t : ℕ) → t < turn → start_at t < b.index → b.sum < sum_from (start_at t)
 
-  pub leading_all : {turn : ℕ} {b : Best} → Leading turn b → 93 ≤ turn → b.index ≡ (best_trial k v xs).start
+  pub leading_all : {turn : ℕ} {b : Best} → Leading turn b → 93 ≤ turn
+      → (b.index ≡ (best_trial k v xs).start) × (b.sum ≡ (best_trial k v xs).sum)
   unfolding best_trial
-  leading_all {turn} {b} d h = sym (ap (λ (t : Trial). t.start) e ∙ trial_start k v xs b.index (length xs))
+  leading_all {turn} {b} d h =
+      (sym (ap (λ (t : Trial). t.start) e ∙ trial_start k v xs b.index (length xs)), d.ran.sum ∙ sym (ap (λ (t : Trial). t.sum) e))
     where
       least : (j : ℕ) → j ≤ 88 → b.sum ≤ sum_from j
       least j m = rw start_late at (d.least (j + 4) (omega arith))

@@ -31,6 +31,13 @@ struct Mark {
     key: u64,
 }
 
+// The start index whose trial has the least sum, the lowest at equality, and that sum.
+#[derive(Clone, Copy)]
+pub struct Found {
+    pub index: u8,
+    pub sum: u64,
+}
+
 // The best trial so far: its start index, its sum, and where it stood before each sample.
 #[derive(Clone, Copy)]
 struct Best {
@@ -40,7 +47,7 @@ struct Best {
 }
 
 // The square of the distance from a pre-gained sample to the sample that a state gives.
-fn squared_error(sample: i16, state: Reached, volume: u8) -> u64
+pub fn squared_error(sample: i16, state: Reached, volume: u8) -> u64
     ensures { (result ≡ square (nat_abs (sample -ℤ output_gain 3 volume state.state.predictor))) × (result ≤ 4294967296) }
 {
     let x = signed::raise(sample as i32);
@@ -140,8 +147,9 @@ fn is_tried(turn: u8, index: u8) -> bool
 }
 
 // The best start: of the trials from 0..=88 the one with the least sum, the lowest at equality.
-pub fn best_start(coder: &Coder, fragment: Fragment) -> u8
-    ensures { result ≡ (best_trial coder.now.settings fragment.entry.volume fragment.entry.xs.now).start }
+pub fn best_start(coder: &Coder, fragment: Fragment) -> Found
+    ensures index_value { result.index ≡ (best_trial coder.now.settings fragment.entry.volume fragment.entry.xs.now).start }
+    ensures sum_value { result.sum ≡ (best_trial coder.now.settings fragment.entry.volume fragment.entry.xs.now).sum }
 {
     let mut trace = [Mark { sum: 0, key: 0 }; 63];
     let index = start_of(0);
@@ -164,5 +172,8 @@ pub fn best_start(coder: &Coder, fragment: Fragment) -> u8
             };
         }
     }
-    best.index
+    Found {
+        index: best.index,
+        sum: best.sum,
+    }
 }

@@ -69,10 +69,10 @@ fn put_best(coder: &Coder, fragment: Fragment, out: &mut [u8])
     ensures { out.new ≡ fragment_bytes coder.now.settings.variant fragment.entry.volume (best_trial coder.now.settings fragment.entry.volume fragment.entry.xs.now) }
 {
     let count = fragment.xs.len();
-    let index = search::best_start(coder, fragment);
-    let codes = codes_from(coder.settings, fragment, index);
+    let found = search::best_start(coder, fragment);
+    let codes = codes_from(coder.settings, fragment, found.index);
     let bits = coder.settings.variant.bits();
-    put_fragment(out, fragment.volume, index, &codes[..count], bits);
+    put_fragment(out, fragment.volume, found.index, &codes[..count], bits);
 }
 
 // Internal: the fragment of at most 63 samples. It fills `out`. Samples that are all 0 take the short way; others can be silent

@@ -16,7 +16,7 @@ coded : (c : After-bits-bits) →
 coded c =
     let a = c.args in
     c.codes_from-codes.ensures
-    ∙ ap (λ (t : Trial). t.codes) (best_from a.coder.now.settings a.fragment.volume a.fragment.xs.now _ c.best_start-index.ensures)
+    ∙ ap (λ (t : Trial). t.codes) (best_from a.coder.now.settings a.fragment.volume a.fragment.xs.now _ c.best_start-found.ensures.index_value)
 
 pub put_fragment-requires-clause-by_index : goal.put_fragment-requires-clause-by_index
 put_fragment-requires-clause-by_index c =
@@ -28,4 +28,4 @@ pub returns : goal.returns
 unfolding fragment_bytes
 returns c =
     let n : length c.args.out.now - 2 ≡ payload_bytes c.args.coder.now.settings.variant = omega (arith, c.requires) in
-    rw (c.put_fragment.ensures, c.bits-bits.ensures, c.best_start-index.ensures, coded (goal.at.returns c).After-bits-bits, n)
+    rw (c.put_fragment.ensures, c.bits-bits.ensures, c.best_start-found.ensures.index_value, coded (goal.at.returns c).After-bits-bits, n)
