@@ -28,9 +28,11 @@ fn h_landed(x: u32, p: u32, eighth: u32, last: u32) -> u32
     requires { (x ≤ 65535) × (p ≤ 65535) × (eighth ≤ 4095) × (last ≤ x - p + (p - x)) }
     ensures { (x < p → result ≡ x + last - eighth) × (p ≤ x → result ≡ min (x + eighth - last) 65535) × (result ≤ 65535) }
 {
-    let below = (x + last).saturating_sub(eighth);
-    let above = (x + eighth).saturating_sub(last).min(65535);
-    if x < p { below } else { above }
+    if x < p {
+        (x + last).saturating_sub(eighth)
+    } else {
+        (x + eighth - last).min(65535)
+    }
 }
 
 // The state after the H code for a normalised sample, without the code.
