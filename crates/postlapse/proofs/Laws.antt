@@ -1,8 +1,8 @@
 -- What the proofs of the calls cite. Assumes nothing.
 use mathlib.Core.Path.{◌≡◌, refl, sym, ◌∙◌, ap}
 use Prim.Native.Nat.{ℕ, ◌<◌, ◌≤◌}
-use mathlib.Core.Bool.{Bool, true, false}
-use mathlib.Core.List.{List}
+use mathlib.Core.Bool.{false}
+use mathlib.Core.List.{List, [], ◌∷◌}
 use lib.Dec.{ltb}
 use borrow.Author.Tests.{lt-leb, le-leb, le-ltb}
 use lib.IntN.{ℤ}
@@ -18,6 +18,12 @@ use Rattle.format.specs.declared.Error.{Error}
 use Rattle.format.specs.declared.State.{State}
 use Rattle.format.specs.declared.Variant.{Variant}
 use Rattle.format.proofs.Range.{unmoved}
+use types.Run.{OneOf, miss}
+use denote.Enum.Declared.{tag_of}
+use Rattle.wav_format.specs.Answers.{values_of}
+use Rattle.wav_format.specs.contracts.WaveError as W
+use Rattle.wav_format.specs.declared.WaveError.{WaveError}
+use Rattle.wav_format.specs.declared.WaveError.TheVariants.{NotWave, RiffEnd, ChunkHeader, ChunkEnd, FormatChunk, DataChunk, NoFormat, Encoding, Channels, ZeroRate, ByteRate, Inconsistent, NoData, PartialFrame, WriterChannels, DataSize, RiffSize, WriterByteRate, OutputTooShort, StrictFormat, StrictOrder, StrictEnd}
 use Rattle.postlapse.specs.Answers.{answer_of}
 use Rattle.postlapse.specs.Promises.{fragment_for_c, Plays, PlaysAs}
 use Rattle.postlapse.specs.declared.Answer.{Answer}
@@ -74,3 +80,37 @@ plays_unmoved version variant s fragment n p e =
     go : (o : Outcome Variant) → moves version (and_then o call) ≡ false → state_left s (and_then o call) ≡ s
     go (result v) e = unmoved version v s fragment n e
     go (refused m vs) e = refl
+
+-- ---- WAV: only one cause returns a number
+
+pub no_number_but : (e : WaveError) → ((n : ℕ) → e ≡ OutputTooShort n → ⊥) → values_of e ≡ []
+unfolding values_of
+no_number_but NotWave k = refl
+no_number_but RiffEnd k = refl
+no_number_but ChunkHeader k = refl
+no_number_but ChunkEnd k = refl
+no_number_but FormatChunk k = refl
+no_number_but DataChunk k = refl
+no_number_but NoFormat k = refl
+no_number_but Encoding k = refl
+no_number_but Channels k = refl
+no_number_but ZeroRate k = refl
+no_number_but ByteRate k = refl
+no_number_but Inconsistent k = refl
+no_number_but NoData k = refl
+no_number_but PartialFrame k = refl
+no_number_but WriterChannels k = refl
+no_number_but DataSize k = refl
+no_number_but RiffSize k = refl
+no_number_but WriterByteRate k = refl
+no_number_but StrictFormat k = refl
+no_number_but StrictOrder k = refl
+no_number_but StrictEnd k = refl
+no_number_but (OutputTooShort n) k = absurd (k n refl)
+
+-- the same by the tags of the causes: all but 18, the output too short
+abbrev others : List ℕ
+others = 0 ∷ 1 ∷ 2 ∷ 3 ∷ 4 ∷ 5 ∷ 6 ∷ 7 ∷ 8 ∷ 9 ∷ 10 ∷ 11 ∷ 12 ∷ 13 ∷ 14 ∷ 15 ∷ 16 ∷ 17 ∷ 19 ∷ 20 ∷ 21 ∷ []
+
+pub no_number : (e : WaveError) → OneOf others (tag_of W.the_type e) → values_of e ≡ []
+no_number e k = no_number_but e (λ n same. absurd (miss others 18 tt (rw same at k)))

@@ -1,7 +1,6 @@
 -- `postlapse::encode` meets its contract: a byte that names no variant is refused first, and else the encoder answers. Assumes nothing.
-use mathlib.Core.Path.{◌≡◌, refl}
+use mathlib.Core.Path.{refl}
 use Rattle.outcome.proofs.Laws.{then_result, then_refused, passed_on}
-use Rattle.format.specs.Encode.{encode_call}
 use Rattle.postlapse.specs.Promises.{encode_for_c}
 use Rattle.postlapse.proofs.Laws.{fills_none}
 use Rattle.postlapse.proofs.encode.Goals as goal
