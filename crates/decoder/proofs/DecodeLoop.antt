@@ -4,22 +4,23 @@ use Prim.Native.Nat.{ℕ, zero, suc, ◌+◌, ◌*◌, ◌/◌, ◌%◌, ◌≤�
 use native.Mathlib.Omega.{arith}
 use native.Mathlib.Numerals.{add-one}
 use native.Mathlib.Nat.{div-add-mod', mod-lt}
+use native.Mathlib.Decide.{ℕ_discrete}
 use mathlib.Core.Path.{◌≡◌, refl, sym, ◌∙◌, ap}
-use mathlib.Core.List.{List, ◌++◌}
+use mathlib.Core.List.{List, [], ◌∷◌, ◌++◌}
 use lib.Arith.{digits_div, digits_mod}
 use lib.IntN.{ℤ, pos}
-use lib.ListN.{length, get_or, drop}
+use lib.ListN.{length, get_or, drop, take, set, length-set}
+use lib.Seq.{get_or-set_same, get_or-set_other}
 use Rattle.lists.proofs.ByIndex.{tabulate_ext}
 use Rattle.format.specs.Layout.{whole_frame, frames, count, fragment_at_place, fragment_at}
 use Rattle.format.specs.Decode.{zero_state, decoded_fragment, state_before, frame_decoded, channel_sample, decoded}
 use Rattle.format.proofs.Sizes.{frame_pos}
-use Rattle.format.proofs.Range.{zero_range}
 use Rattle.format.specs.declared.State.{State}
 use Rattle.format.specs.declared.Header.{Header}
-use Rattle.decoder.specs.Loops.{out_after, states_after, place_decoded, AllInRange, Stream, turn_states, turn_out, start_states, loop_states, loop_samples, loop_out}
-use Rattle.decoder.proofs.Interleave.{out_whole, length-out_after}
-use Rattle.decoder.proofs.Turns.{chain, turn_state_lem}
-use Rattle.decoder.proofs.InStep.{turn_range}
+use Rattle.format.specs.declared.Reached.{Reached}
+use Rattle.decoder.specs.Loops.{put_at, out_after, states_after, place_decoded, start_states, loop_states, loop_samples, loop_out, Decoding}
+use Rattle.decoder.proofs.Interleave.{out_whole, length-out_after, spread-take}
+use Rattle.decoder.proofs.Turns.{chain, turn_state_lem, length_states}
 
 module _ (h : Header) (d : List ℕ) (hc : 0 < h.channels) where
   chain_before : (k f : ℕ) → k < h.channels → chain zero_state h.channels (λ q s. (place_decoded h d q s).state) k f ≡ state_before h (fragment_at h d k) f
@@ -68,40 +69,53 @@ start_zero (suc (suc k)) = refl
 pub fresh : (k : ℕ) → k < 2 → get_or start_states k zero_state ≡ zero_state
 fresh k h = start_zero k
 
-module _ (h : Header) (d : List ℕ) (o : List ℤ) where
-  -- after p fragments
-  pub record Decoding (p : ℕ) (out : List ℤ) (states : List State) : Type 0 where
-    pub out_is : out ≡ loop_out h d start_states o p
-    pub states_are : states ≡ loop_states h d start_states p
-    pub range : AllInRange states
+-- the states and the output before the first turn
+pub decoding_none : (h : Header) (d : List ℕ) (o : List ℤ) (z : Reached) → z.state ≡ zero_state → Decoding h d o 0 o (z ∷ z ∷ [])
+unfolding out_after states_after
+decoding_none h d o z e = record { out_is = refl; states_long = refl; states_are = λ k l y. at k l y }
+  where
+    at : (k : ℕ) → k < 2 → (y : Reached) → (get_or (z ∷ z ∷ []) k y).state ≡ get_or start_states k zero_state
+    at zero l y = e
+    at (suc zero) l y = e
+    at (suc (suc k)) l y = absurd (omega arith)
 
-  pub decoding_none : Decoding 0 o start_states
-  unfolding out_after states_after
-  decoding_none = record { out_is = refl; states_are = refl; range = λ k. rw start_zero zero_range }
+module _ {h : Header} {d : List ℕ} {o : List ℤ} {p : ℕ} {out : List ℤ} {states : List Reached} (t : Decoding h d o p out states) where
+  pub length_decoding : length out ≡ length o
+  length_decoding = ap length t.out_is ∙ length-out_after (pos 0) h.channels (whole_frame h) h.samples (loop_samples h d start_states) o p
 
-  pub length_decoding : {p : ℕ} {out : List ℤ} {states : List State} → Decoding p out states → length out ≡ length o
-  length_decoding {p} k = ap length k.out_is ∙ length-out_after (pos 0) h.channels (whole_frame h) h.samples (loop_samples h d start_states) o p
+  -- a turn more
+  module _ (hc : 0 < h.channels) (few : h.channels ≤ 2) where
+    one : p % h.channels < 2
+    one = omega (arith, mod-lt p hc)
 
-  -- a turn more, and two
-  pub decoding_more : {p : ℕ} {out r : List ℤ} {states next : List State} → Decoding p out states
-      → next ≡ turn_states h d p states → r ≡ turn_out h d p states out → Decoding (p + 1) r next
-  unfolding out_after states_after count
-  decoding_more {p} {out} {r} {states} {next} k en er =
-      record {
-        out_is = rw add-one (er ∙ rw (k.out_is, k.states_are));
-        states_are = rw add-one (en ∙ rw k.states_are);
-        range = rw en (turn_range h d p states k.range);
-      }
+    pub state_found : (z : Reached) → (get_or states (p % h.channels) z).state ≡ get_or (loop_states h d start_states p) (p % h.channels) zero_state
+    state_found z = t.states_are (p % h.channels) one z
 
-  pub decoding_two : {p : ℕ} {out r : List ℤ} {states next : List State} → Decoding p out states
-      → next ≡ turn_states h d (p + 1) (turn_states h d p states) → r ≡ turn_out h d (p + 1) (turn_states h d p states) (turn_out h d p states out)
-      → Decoding (p + 2) r next
-  decoding_two {p} k en er =
-      let e : p + 2 ≡ p + 1 + 1 = omega arith in
-      rw e (decoding_more (decoding_more k refl refl) en er)
+    pub decoding_more : (xs : List ℤ) (r : Reached) → r.state ≡ (place_decoded h d p (get_or (loop_states h d start_states p) (p % h.channels) zero_state)).state
+        → take (count h (p / h.channels)) xs ≡ loop_samples h d start_states p
+        → Decoding h d o (p + 1) (put_at h p xs out) (set states (p % h.channels) r)
+    unfolding out_after states_after count
+    decoding_more xs r er ex =
+        record {
+          out_is =
+              rw add-one
+              (sym (spread-take (pos 0) out xs (p / h.channels * whole_frame h) h.channels (p % h.channels) (count h (p / h.channels)) (count h (p / h.channels)) (omega arith))
+              ∙ rw (ex, t.out_is));
+          states_long = simp length-set t.states_long;
+          states_are = λ k l z. rw add-one (go k z l (ℕ_discrete k (p % h.channels)));
+        }
+      where
+        before : List State
+        before = loop_states h d start_states p
 
-  -- the output is as long as it was
-  pub decoding_stream : {differences nexts : List ℕ} {p : ℕ} {out : List ℤ} {states : List State} → Decoding p out states → Stream h d differences nexts o
-      → Stream h d differences nexts out
-  decoding_stream k s =
-      record { tables = s.tables; some = s.some; few = s.few; size = s.size; room = rw (length_decoding k) s.room }
+        turn : State
+        turn = (place_decoded h d p (get_or before (p % h.channels) zero_state)).state
+
+        long : length before ≡ 2
+        long = length_states zero_state h.channels (λ q s. (place_decoded h d q s).state) start_states hc few p
+
+        go : (k : ℕ) (z : Reached) → k < 2 → Dec (k ≡ p % h.channels) → (get_or (set states (p % h.channels) r) k z).state ≡ get_or (set before (p % h.channels) turn) k zero_state
+        go k z l (yes q) =
+            rw (q, get_or-set_same states (p % h.channels) r z (omega (arith, t.states_long, one)), get_or-set_same before (p % h.channels) turn zero_state (omega (arith, long, one))) er
+        go k z l (no q) =
+            rw (get_or-set_other states (p % h.channels) k r z q, get_or-set_other before (p % h.channels) k turn zero_state q) (t.states_are k l z)

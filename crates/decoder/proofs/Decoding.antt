@@ -11,35 +11,35 @@ use Rattle.outcome.proofs.Laws.{met, clear, then_result, then_refused, on_result
 use Rattle.format.specs.Layout.{frames}
 use Rattle.format.specs.Decode.{decoded}
 use Rattle.format.specs.Inspect.{Sound, inspected, decode_call}
-use Rattle.format.specs.Answers.{number_of, values_of, refusal, decoded_of, AsDecoded}
+use Rattle.format.specs.Answers.{number_of, values_of, refusal, AsDecoded}
 use Rattle.format.proofs.Agreement.{length-decoded}
 use Rattle.format.specs.declared.Header.{Header}
 use Rattle.format.specs.declared.Error.{Error}
+use Rattle.std.specs.declared.result.Result.TheVariants.{Ok, Err}
 use Rattle.decoder.specs.Loops.{start_states, loop_out}
 use Rattle.decoder.proofs.DecodeLoop.{loop_decodes, fresh}
 use Rattle.format.specs.declared.Error.TheVariants as E
-use Rattle.format.specs.declared.Decoded.TheVariants as D
 
 module _ (d : List ℕ) (out : List ℤ) where
-  pub as_refused : (e : Error) → refusal e ≡ decode_call d (length out) → AsDecoded d out (D.Refused e) out
-  unfolding decoded_of on_result output_after
+  pub as_refused : (e : Error) → refusal e ≡ decode_call d (length out) → AsDecoded d out (Err e) out
+  unfolding on_result output_after
   as_refused e q = record { answered = rw (← q); output_left = rw (← q) }
 
   -- inspection refuses
-  pub decode_stopped : (e : Error) → refusal e ≡ inspected d → AsDecoded d out (D.Refused e) out
+  pub decode_stopped : (e : Error) → refusal e ≡ inspected d → AsDecoded d out (Err e) out
   unfolding decode_call
   decode_stopped e q = as_refused e (then_refused _ _ _ _ q)
 
   module _ (h : Header) (q : result h ≡ inspected d) where
     -- the output is too short
-    pub decode_short : length out < h.samples * h.channels → AsDecoded d out (D.Refused (E.OutputTooShort (h.samples * h.channels))) out
+    pub decode_short : length out < h.samples * h.channels → AsDecoded d out (Err (E.OutputTooShort (h.samples * h.channels))) out
     unfolding decode_call number_of values_of
     decode_short l = as_refused (E.OutputTooShort _) (then_result _ h _ _ q (met _ _ _ _ (lt-ltb _ _ l)))
 
     -- the loop has filled it
     pub decode_filled : h.samples * h.channels ≤ length out → 0 < h.channels → h.channels ≤ 2 → (r : List ℤ)
-        → r ≡ loop_out h d start_states out (frames h * h.channels) → AsDecoded d out (D.Filled h) r
-    unfolding decode_call decoded_of
+        → r ≡ loop_out h d start_states out (frames h * h.channels) → AsDecoded d out (Ok h) r
+    unfolding decode_call
     decode_filled l hc h2 r e =
         let s : Sound = record { header = h; samples = decoded h d } in
         let k : result s ≡ decode_call d (length out) = then_result _ h _ _ q (clear _ _ _ _ _ (le-ltb _ _ l) refl) in

@@ -2,12 +2,11 @@
 -- Assumes nothing.
 use Prim.Native.Nat.{ℕ, zero, suc, ◌+◌, ◌*◌, ◌-◌, ◌/◌, ◌%◌, ◌≤◌, ◌<◌, min}
 use native.Mathlib.Omega.{arith}
-use native.Mathlib.Numerals.{add-one}
 use native.Mathlib.Nat.{mul-le-mul_right, div-add-mod', mod-lt, le-div_iff_mul-le, div-mul-le_self, div-lt_iff_lt-mul}
 use native.Mathlib.Decide.{dec_lt, ℕ_discrete}
 use mathlib.Core.Path.{◌≡◌, refl, sym, ◌∙◌, ap, subst}
 use mathlib.Core.Logic.{◌≢◌}
-use mathlib.Core.List.{List, [], ◌∷◌, ◌++◌}
+use mathlib.Core.List.{List, ◌++◌}
 use lib.Arith.{digits_lt, digits_div, digits_mod}
 use lib.ListN.{length, get_or, take, drop, set, length-append, length-drop, length-set, get_or-append}
 use lib.Seq.{get_or-take, get_or-set_same, get_or-set_other, get_or-drop, get_or-append-add, ext_get_or}
@@ -49,36 +48,6 @@ module _ {A : Type 0} (d : A) (xs : List A) (first c ch : ℕ) where
       go (no e) ih =
           let k : w < n = omega arith in
           get_or-set_other (spread d o xs first c ch n) ((first + n) * c + ch) ((first + w) * c + ch) (get_or xs n d) d (apart w n hc k) ∙ ih k l
-
--- two places are set in any order
-set-set : {A : Type 0} (l : List A) (i j : ℕ) (x y : A) → i ≢ j → set (set l i x) j y ≡ set (set l j y) i x
-set-set [] i j x y h = refl
-set-set (a ∷ l) zero zero x y h = absurd (h refl)
-set-set (a ∷ l) zero (suc j) x y h = refl
-set-set (a ∷ l) (suc i) zero x y h = refl
-set-set (a ∷ l) (suc i) (suc j) x y h = rw (set-set l i j x y (λ e. h (ap suc e)))
-
--- a place that no sample goes to may be set before
-spread-set : {A : Type 0} (d : A) (o xs : List A) (first c ch n j : ℕ) (x : A) → ((w : ℕ) → w < n → (first + w) * c + ch ≢ j)
-    → set (spread d o xs first c ch n) j x ≡ spread d (set o j x) xs first c ch n
-unfolding spread
-spread-set d o xs first c ch zero j x h = refl
-spread-set d o xs first c ch (suc n) j x h =
-    set-set (spread d o xs first c ch n) ((first + n) * c + ch) j (get_or xs n d) x (h n (omega arith))
-    ∙ rw (spread-set d o xs first c ch n j x (λ w l. h w (omega arith)))
-
--- the samples of two channels, woven: one turn more
-pub woven_more : {A : Type 0} (d : A) (o xs ys : List A) (first w : ℕ) {l : List A} {x y : A}
-    → l ≡ spread d (spread d o xs first 2 0 w) ys first 2 1 w → x ≡ get_or xs w d → y ≡ get_or ys w d
-    → set (set l ((first + w) * 2) x) ((first + w) * 2 + 1) y
-    ≡ spread d (spread d o xs first 2 0 (w + 1)) ys first 2 1 (w + 1)
-unfolding spread
-woven_more d o xs ys first w {l} {x} {y} e ex ey =
-    let z : (first + w) * 2 + 0 ≡ (first + w) * 2 = omega arith in
-    let next : spread d o xs first 2 0 (suc w) ≡ set (spread d o xs first 2 0 w) ((first + w) * 2) (get_or xs w d) =
-    ap (λ j. set (spread d o xs first 2 0 w) j (get_or xs w d)) z in
-    rw (add-one w, e, ex, ey, spread-set d (spread d o xs first 2 0 w) ys first 2 1 w ((first + w) * 2) (get_or xs w d) (λ k m. omega arith))
-    (ap (λ t. set (spread d t ys first 2 1 w) ((first + w) * 2 + 1) (get_or ys w d)) (sym next))
 
 -- only the samples that are put count
 pub spread-take : {A : Type 0} (d : A) (o xs : List A) (first c ch n m : ℕ) → n ≤ m → spread d o (take m xs) first c ch n ≡ spread d o xs first c ch n

@@ -2,4 +2,5 @@ pub mod Interleave
 pub mod Turns
 pub mod InStep
 pub mod DecodeLoop
+pub mod Lanes
 pub mod Decoding

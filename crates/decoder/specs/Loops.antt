@@ -1,10 +1,10 @@
 -- What the loops over a whole stream have done after so many turns, said by their own stores. That this is what 01 defines is shown
 -- in proofs/. Assumes nothing.
-use Rattle.std.specs.Prelude.{ℕ, zero, suc, ◌+◌, ◌*◌, ◌-◌, ◌/◌, ◌%◌, ◌≤◌, ◌<◌, min, ◌≡◌, true, ◌⊎◌, List, [], ◌∷◌, ℤ, pos, length, get_or, set}
-use Rattle.format.specs.Layout.{anew, whole_frame, count, stream_length, fragment_at_place}
-use Rattle.format.specs.Decode.{zero_state, DecodedFragment, decoded_fragment, InRange}
-use Rattle.lookup.specs.Lookup.{Lookup}
+use Rattle.std.specs.Prelude.{ℕ, zero, suc, ◌+◌, ◌*◌, ◌-◌, ◌/◌, ◌%◌, ◌<◌, min, ◌≡◌, true, ◌⊎◌, List, [], ◌∷◌, ℤ, pos, length, get_or, set}
+use Rattle.format.specs.Layout.{anew, whole_frame, count, fragment_at_place}
+use Rattle.format.specs.Decode.{zero_state, DecodedFragment, decoded_fragment}
 use Rattle.format.specs.declared.State.{State}
+use Rattle.format.specs.declared.Reached.{Reached}
 use Rattle.format.specs.declared.Header.{Header}
 
 -- an output after n samples of a fragment: sample w of xs goes to place (first + w) × c + ch
@@ -34,30 +34,9 @@ states_after z c g states (suc p) =
 abbrev pub place_decoded : Header → List ℕ → ℕ → State → DecodedFragment
 place_decoded h d p s = decoded_fragment h.version h.variant s (fragment_at_place h d p) (count h (p / h.channels))
 
--- what the loop needs of a stream: its tables, its file, and an output with room
-pub record Stream (h : Header) (d differences nexts : List ℕ) (o : List ℤ) : Type 0 where
-  pub tables : Lookup h.version h.variant differences nexts
-  pub some : 0 < h.channels
-  pub few : h.channels ≤ 2
-  pub size : length d ≡ stream_length h
-  pub room : h.samples * h.channels ≤ length o
-
--- the fragments at p and p + 1 do not wait for each other: they are of one frame, or start anew
-abbrev pub InStep : Header → ℕ → Type 0
-InStep h p = ((p + 1) / h.channels ≡ p / h.channels) ⊎ (anew h.version ≡ true)
-
-abbrev pub AllInRange : List State → Type 0
-AllInRange states = (k : ℕ) → InRange (get_or states k zero_state)
-
--- the turn of place p, from any states and output: the state of its channel, the states after it, and the output
-abbrev pub turn_state : Header → ℕ → List State → State
-turn_state h p states = get_or states (p % h.channels) zero_state
-
-abbrev pub turn_states : Header → List ℕ → ℕ → List State → List State
-turn_states h d p states = set states (p % h.channels) (place_decoded h d p (turn_state h p states)).state
-
-abbrev pub turn_out : Header → List ℕ → ℕ → List State → List ℤ → List ℤ
-turn_out h d p states o = put_at h p (place_decoded h d p (turn_state h p states)).samples o
+-- the n fragments from p on do not wait for each other: they are of one frame, or start anew
+abbrev pub InStep : Header → ℕ → ℕ → Type 0
+InStep h p n = (k : ℕ) → k < n → ((p + k) / h.channels ≡ p / h.channels) ⊎ (anew h.version ≡ true)
 
 -- one state for each of two channels, at 0, 0
 abbrev pub start_states : List State
@@ -72,3 +51,9 @@ loop_samples h d states p = (place_decoded h d p (get_or (loop_states h d states
 
 abbrev pub loop_out : Header → List ℕ → List State → List ℤ → ℕ → List ℤ
 loop_out h d states o p = out_after (pos 0) h.channels (whole_frame h) h.samples (loop_samples h d states) o p
+
+-- after p fragments: the output, and the states
+pub record Decoding (h : Header) (d : List ℕ) (o : List ℤ) (p : ℕ) (out : List ℤ) (states : List Reached) : Type 0 where
+  pub out_is : out ≡ loop_out h d start_states o p
+  pub states_long : length states ≡ 2
+  pub states_are : (k : ℕ) → k < 2 → (z : Reached) → (get_or states k z).state ≡ get_or (loop_states h d start_states p) k zero_state

@@ -1,38 +1,30 @@
 -- `decoder::decode` meets its contract. Assumes nothing.
-use native.Mathlib.Nat.{mul-le-mul_left}
-use native.Mathlib.Omega.{arith}
 use mathlib.Core.Path.{sym}
+use Rattle.std.proofs.lemmas.Result.{err_from_is_err_and}
 use Rattle.format.proofs.Accepted.{accepted}
 use Rattle.format.proofs.Sizes.{channels_few}
-use Rattle.format.specs.Answers.{inspected_of}
 use Rattle.decoder.proofs.Decoding.{decode_short, decode_filled, decode_stopped}
 use Rattle.decoder.proofs.decode.Goals as goal
 
-pub overflow_mul-needed : goal.overflow_mul-needed
-unfolding inspected_of
-overflow_mul-needed c =
-    let a = accepted _ _ (sym (rw c.in-Accepted.is at c.inspect.ensures)) in
-    let few = channels_few _ _ a.channels in
-    omega (arith, mul-le-mul_left c.in-Accepted.h.samples few.1, c.in-Accepted)
+pub returns-in_err-header : goal.returns-in_err-header
+returns-in_err-header c =
+    let p = err_from_is_err_and c.from_residual.result c.from_residual.ensures.1 in
+    rw (p.1, p.2) (decode_stopped _ _ _ c.in_err-header.ensures)
 
 pub returns-then-out-needed : goal.returns-then-out-needed
-unfolding inspected_of
-returns-then-out-needed c = decode_short _ _ _ (rw c.in-Accepted.is at c.inspect.ensures) c.if-out-needed.true
+returns-then-out-needed c = decode_short _ _ _ c.in_ok-header.ensures c.if-out-needed.true
 
-pub decode_stream-requires : goal.decode_stream-requires
-unfolding inspected_of
-decode_stream-requires c =
-    let a = accepted _ _ (sym (rw c.in-Accepted.is at c.inspect.ensures)) in
-    let few = channels_few _ _ a.channels in
-    (few.0, few.1, a.size, c.if-out-needed.false)
+pub invariant_of-of : goal.invariant_of-of
+invariant_of-of c =
+    let a = accepted _ _ (sym c.in_ok-header.ensures) in
+    record { channels = (channels_few _ _ a.channels).0; whole = a.size }
 
-pub returns-else-out-needed : goal.returns-else-out-needed
-unfolding inspected_of
-returns-else-out-needed c =
-    let q = rw c.in-Accepted.is at c.inspect.ensures in
-    let few = channels_few _ _ (accepted _ _ (sym q)).channels in
-    decode_filled _ _ _ q c.if-out-needed.false few.0 few.1 _ c.decode_stream.ensures
+pub decode_fragments-requires : goal.decode_fragments-requires
+decode_fragments-requires c =
+    let few = channels_few _ _ (accepted _ _ (sym c.in_ok-header.ensures)).channels in
+    rw c.of.ensures.0 (few.1, c.if-out-needed.false)
 
-pub returns-in-Refused : goal.returns-in-Refused
-unfolding inspected_of
-returns-in-Refused c = decode_stopped _ _ _ (rw c.in-Refused.is at c.inspect.ensures)
+pub returns : goal.returns
+returns c =
+    let few = channels_few _ _ (accepted _ _ (sym c.in_ok-header.ensures)).channels in
+    decode_filled _ _ _ c.in_ok-header.ensures c.if-out-needed.false few.0 few.1 _ (rw (c.of.ensures.0, c.of.ensures.1) at c.decode_fragments.ensures)

@@ -1,0 +1,52 @@
+-- The turns of fragments side by side. Assumes nothing.
+use Prim.Native.Nat.{ℕ, ◌+◌, ◌/◌, ◌%◌, ◌≤◌, ◌<◌}
+use native.Mathlib.Nat.{mod-lt}
+use native.Mathlib.Decide.{ℕ_discrete}
+use native.Mathlib.Omega.{arith}
+use mathlib.Core.Path.{◌≡◌, sym, ap, ◌∙◌}
+use mathlib.Core.List.{List}
+use lib.IntN.{ℤ}
+use lib.ListN.{length, get_or, set, length-set}
+use lib.Seq.{get_or-set_same, get_or-set_other}
+use Rattle.std.proofs.lemmas.List.{get_or_read}
+use Rattle.format.specs.Layout.{count, fragment_at_place}
+use Rattle.format.specs.Decode.{zero_state}
+use Rattle.format.specs.declared.Header.{Header}
+use Rattle.format.specs.declared.Reached.{Reached}
+use Rattle.player.specs.Play.{Played}
+use Rattle.decoder.specs.Loops.{put_at, place_decoded, InStep, start_states, loop_states, Decoding}
+use Rattle.decoder.proofs.InStep.{finds, lane_samples, lane_state}
+use Rattle.decoder.proofs.DecodeLoop.{decoding_more}
+
+-- the first k of n states are taken from the list of states, by their channels
+pub record Taken (c p n k : ℕ) (states before : List Reached) : Type 0 where
+  pub long : length before ≡ n
+  pub each : (j : ℕ) → j < k → (z : Reached) → get_or before j z ≡ get_or states ((p + j) % c) z
+
+module _ {c p n : ℕ} {states before : List Reached} where
+  pub taken_none : length before ≡ n → Taken c p n 0 states before
+  taken_none e = record { long = e; each = λ j l z. absurd (omega arith) }
+
+  pub taken_more : {k : ℕ} {r : Reached} → Taken c p n k states before → k < n → (p + k) % c < length states → r ≡ get_or states ((p + k) % c) r
+      → Taken c p n (k + 1) states (set before k r)
+  taken_more {k} {r} t l m is =
+      record { long = simp length-set t.long; each = λ j q z. go j z (ℕ_discrete j k) (omega arith) }
+    where
+      go : (j : ℕ) (z : Reached) → Dec (j ≡ k) → j ≤ k → get_or (set before k r) j z ≡ get_or states ((p + j) % c) z
+      go j z (yes e) q = rw (e, get_or-set_same before k r z (omega (arith, t.long))) (get_or_read states ((p + k) % c) r m is z)
+      go j z (no e) q = rw (get_or-set_other before k j r z e) (t.each j (omega arith) z)
+
+module _ {h : Header} {d : List ℕ} {o : List ℤ} {p n : ℕ} (step : InStep h p n) (hc : 0 < h.channels) (few : h.channels ≤ 2) where
+  -- one of them: its fragment is played from the state that its channel had before them all
+  pub lane_more : {out₀ out : List ℤ} {states₀ states : List Reached} {k : ℕ} → Decoding h d o p out₀ states₀ → Decoding h d o (p + k) out states → k < n
+      → (b r z : Reached) (xs : List ℤ) → b ≡ get_or states₀ ((p + k) % h.channels) z
+      → Played h d (p + k) (count h (p / h.channels)) b.state r.state xs
+      → Decoding h d o (p + (k + 1)) (put_at h (p + k) xs out) (set states ((p + k) % h.channels) r)
+  lane_more {k = k} t₀ t l b r z xs is played =
+      let e : p + (k + 1) ≡ p + k + 1 = omega arith in
+      let found : b.state ≡ get_or (loop_states h d start_states (p + k)) ((p + k) % h.channels) zero_state =
+      ap (λ (x : Reached). x.state) is ∙ t₀.states_are ((p + k) % h.channels) (omega (arith, mod-lt (p + k) hc)) z ∙ sym (finds h d p step hc k k (omega arith) l) in
+      rw e
+      (decoding_more t hc few xs r
+      (lane_state h d p step hc k l b.state (fragment_at_place h d (p + k)) played.state ∙ ap (λ s. (place_decoded h d (p + k) s).state) found)
+      (lane_samples h d p step hc k l b.state (fragment_at_place h d (p + k)) xs played.samples_are ∙ ap (λ s. (place_decoded h d (p + k) s).samples) found))
