@@ -31,7 +31,7 @@ fn decode_lanes<const N: usize>(
     states: &mut [Reached; 2],
     out: &mut [i16],
 )
-    requires { (p + N ≤ frames player.stream.header * player.stream.header.channels) × InStep player.stream.header p N
+    requires { (0 < N) × (p + N ≤ frames player.stream.header * player.stream.header.channels) × InStep player.stream.header p N
         × (player.stream.header.channels ≤ 2) × (player.stream.header.samples * player.stream.header.channels ≤ length out.old) }
     ensures { (o : List ℤ) → Decoding player.entry.stream.header player.entry.stream.file.now o p out.old states.old
         → Decoding player.entry.stream.header player.entry.stream.file.now o (p + N) out.new states.new }

@@ -29,6 +29,18 @@ pub fn count_at(h: Header, f: usize) -> usize
     left.min(whole)
 }
 
+// Samples per channel of the last frame, 0 where there is none.
+pub fn last_count(h: Header) -> usize
+    ensures { (result ≡ count h (frames h - 1)) × (result ≤ 64) }
+{
+    let frames = frame_count(h);
+    if frames == 0 {
+        0
+    } else {
+        count_at(h, frames - 1)
+    }
+}
+
 // How many fragments a stream has.
 pub fn fragment_count(h: Header) -> usize
     ensures { (result ≡ frames h * h.channels) × (result < 2 ^ 40) }
@@ -78,10 +90,16 @@ impl<'a> Stream<'a> {
         &self.file[at..end]
     }
 
-    // Samples of the fragment at place `p`.
+    // Internal: samples of the fragment at place `p`: those of a whole frame before the last frame. A loop over the places divides
+    // nothing at a turn.
     pub fn samples_at(&self, p: usize) -> usize
+        requires { p < frames self.now.header * self.now.header.channels }
         ensures { (result ≡ count self.now.header (p / self.now.header.channels)) × (result ≤ 64) }
     {
-        count_at(self.header, p / (self.header.channels as usize))
+        if p + (self.header.channels as usize) < self.fragments() {
+            self.header.coding().frame_samples()
+        } else {
+            last_count(self.header)
+        }
     }
 }

@@ -136,7 +136,7 @@ impl<'a> Player<'a> {
         states: [Reached; N],
         samples: &mut [[i16; 64]; N],
     ) -> [Reached; N]
-        requires { p + N ≤ frames self.stream.header * self.stream.header.channels }
+        requires { (0 < N) × (p + N ≤ frames self.stream.header * self.stream.header.channels) }
         ensures { (k : ℕ) → k < N → (d : Reached) → Played self.entry.stream.header self.entry.stream.file.now (p + k)
             (count self.entry.stream.header (p / self.entry.stream.header.channels)) (get_or states.entry k d).state (get_or result k d).state (get_or samples.new k []) }
     {
