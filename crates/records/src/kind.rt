@@ -1,4 +1,4 @@
-ghost use Rattle.std.specs.Prelude.{◌≡◌, MatchResult, ⊤};
+ghost use Rattle.std.specs.Prelude.{◌≡◌, ◌<◌, MatchResult};
 ghost use Rattle.records.specs.Kinds.{number_of};
 
 // What a question is put to.
@@ -24,7 +24,7 @@ pub struct UnknownKind;
 impl TryFrom<u8> for Kind {
     type Error = UnknownKind;
 
-    ghost try_from_gives = { λ number answer. MatchResult answer (λ kind. number_of kind ≡ number) (λ _. ⊤) };
+    ghost try_from_gives = { λ number answer. MatchResult answer (λ kind. number_of kind ≡ number) (λ _. 0 < number → 10 < number) };
 
     fn try_from(number: u8) -> Result<Kind, UnknownKind> {
         match number {

@@ -7,242 +7,156 @@
 
 use format::State;
 use postlapse::{Answer, HeaderAnswer, WaveAnswer};
-use std::fs::File;
+use records::{Kind, Question, front};
 use std::io;
-use std::io::Read;
+use text::Printer;
 
-// The places of the arrays that are lent to the calls. Each byte of them is 165 before a call.
+// The places of the arrays that are lent to the calls.
 const SAMPLES: usize = 1024;
 
 const BYTES: usize = 2092;
 
-// What one turn found: the end of the list, an answer, one that differs, or a list that breaks off.
-#[derive(Clone, Copy)]
-enum Turn {
-    End,
-    Same,
-    Differs,
-    Broken,
-}
+// What each place of them holds before a call.
+const BYTE: u8 = 165;
 
-// The first n elements, all where there are no more.
-fn front(s: &[u8], n: usize) -> &[u8] {
-    if n < s.len() { &s[..n] } else { s }
-}
+const SAMPLE: i16 = -23131;
 
-fn front_samples(s: &[i16], n: usize) -> &[i16] {
-    if n < s.len() { &s[..n] } else { s }
-}
-
-// The part from byte k on, nothing past the end.
-fn tail(q: &[u8], k: usize) -> &[u8] {
-    if k <= q.len() { &q[k..] } else { &q[..0] }
-}
-
-fn byte_at(q: &[u8], k: usize) -> u8 {
-    if k < q.len() { q[k] } else { 0 }
-}
-
-fn word_at(q: &[u8], k: usize) -> u32 {
-    let part = tail(q, k);
-    if part.len() < 4 {
-        return 0;
+// The first `count` places of an output; none where a place behind them has been changed.
+fn filled<T: PartialEq + Copy>(places: &[T], count: usize, before: T) -> Option<&[T]> {
+    let (first, rest) = places.split_at_checked(count)?;
+    if rest.iter().all(|place| *place == before) {
+        Some(first)
+    } else {
+        None
     }
-    digits::le32(part, 0)
 }
 
-// Puts a byte at a place of the answer, and returns the next place; past the end nothing is put.
-fn put(out: &mut [u8], at: usize, b: u8) -> usize {
-    if at < out.len() {
-        out[at] = b;
-        return at + 1;
-    }
-    at
-}
-
-fn put_two(out: &mut [u8], at: usize, x: usize) -> usize {
-    let next = put(out, at, (x % 256) as u8);
-    put(out, next, (x / 256 % 256) as u8)
-}
-
-fn put_eight(out: &mut [u8], at: usize, x: usize) -> usize {
-    let a = put_two(out, at, x);
-    let b = put_two(out, a, x / 65536);
-    let c = put_two(out, b, x / 65536 / 65536);
-    put_two(out, c, x / 65536 / 65536 / 65536)
-}
-
-fn put_bytes(out: &mut [u8], at: usize, s: &[u8]) -> usize {
-    let mut next = at;
-    let mut i = 0;
-    while i < s.len() {
-        next = put(out, next, s[i]);
-        i += 1;
-    }
-    next
-}
-
-fn put_samples(out: &mut [u8], at: usize, s: &[i16]) -> usize {
-    let mut next = at;
-    let mut i = 0;
-    while i < s.len() {
-        let bytes = signed::sample_bytes(s[i]);
-        next = put(out, next, bytes[0]);
-        next = put(out, next, bytes[1]);
-        i += 1;
-    }
-    next
-}
-
-// Where the numbers of an answer end, and how many places the call says that it has filled.
-#[derive(Clone, Copy)]
-struct Told {
-    at: usize,
-    count: usize,
-}
-
-// The numbers of an answer, in eight bytes each.
-fn put_answer(out: &mut [u8], a: Answer) -> Told {
-    let b = put_eight(out, 0, a.refusal);
-    let c = put_eight(out, b, a.first);
-    let at = put_eight(out, c, a.second);
-    let count = if a.refusal == 0 { a.first } else { 0 };
-    Told { at, count }
-}
-
-// The fields of a header.
-fn put_fields(out: &mut [u8], at: usize, a: HeaderAnswer) -> usize {
-    let b = put(out, at, a.version);
-    let c = put(out, b, a.variant);
-    let d = put(out, c, a.channels);
-    let e = put_eight(out, d, a.rate as usize);
-    put_eight(out, e, a.samples as usize)
-}
-
-// The samples of all channels.
-fn total(samples: u32, channels: u8) -> usize {
-    (samples as usize) * (channels as usize)
-}
-
-// The numbers of an answer, and its header.
-fn put_header(out: &mut [u8], a: HeaderAnswer) -> Told {
-    let numbers = Answer {
-        refusal: a.refusal,
-        first: a.first,
-        second: a.second,
-    };
-    let told = put_answer(out, numbers);
-    let at = put_fields(out, told.at, a);
-    let count = total(a.samples, a.channels);
-    Told { at, count }
-}
-
-// Puts the first n places of an output. Where a place behind them has been changed, there is no answer.
-fn put_output(out: &mut [u8], at: usize, places: &[u8], n: usize) -> usize {
-    let before = [165u8; BYTES];
-    if check::same(tail(places, n), tail(&before, n)) {
-        return put_bytes(out, at, front(places, n));
-    }
-    0
-}
-
-// The same of an output of samples.
-fn put_pcm(out: &mut [u8], told: Told, pcm: &[i16]) -> usize {
-    if SAMPLES < told.count {
-        return 0;
-    }
-    let mut places = [165u8; BYTES];
-    put_samples(&mut places, 0, pcm);
-    put_output(out, told.at, &places, 2 * told.count)
-}
-
-// Loads the samples of a question's bytes; none where they are too many.
-fn load(s: &[u8], out: &mut [i16]) -> usize {
-    let a = postlapse::postlapse_load_samples(s, out);
+// Puts the numbers of an answer, in eight bytes each. It says how many places it has filled.
+fn put_numbers(answer: &mut Printer, a: Answer) -> usize {
+    answer.word(&a.refusal.to_le_bytes());
+    answer.word(&a.first.to_le_bytes());
+    answer.word(&a.second.to_le_bytes());
     if a.refusal == 0 { a.first } else { 0 }
 }
 
-// The encoder's question is variant, gain and a sound, the writer's a sound: channels, rate, room, samples.
-fn call_bytes(q: &[u8], sound: &[u8], pcm: &[i16], places: &mut [u8]) -> Answer {
-    let channels = byte_at(sound, 0);
-    let rate = word_at(sound, 1);
-    if byte_at(q, 0) == 1 {
-        return postlapse::postlapse_encode(
-            pcm,
-            channels,
-            rate,
-            byte_at(q, 1),
-            byte_at(q, 2),
-            places,
-        );
-    }
-    postlapse::postlapse_write_wave(channels, rate, pcm, places)
+// Puts the numbers of an answer, and its header.
+fn put_header(answer: &mut Printer, a: HeaderAnswer) -> usize {
+    put_numbers(
+        answer,
+        Answer {
+            refusal: a.refusal,
+            first: a.first,
+            second: a.second,
+        },
+    );
+    answer.word(&[a.version, a.variant, a.channels]);
+    answer.word(&u64::from(a.rate).to_le_bytes());
+    answer.word(&u64::from(a.samples).to_le_bytes());
+    a.samples as usize * a.channels as usize
 }
 
-// Lends the first places to the call. Where there are fewer than the question says, nothing is asked.
-fn fill_bytes(q: &[u8], sound: &[u8], pcm: &[i16], places: &mut [u8], out: &mut [u8]) -> Told {
-    let room = word_at(sound, 5) as usize;
-    if places.len() < room {
-        return Told { at: 0, count: 0 };
-    }
-    let a = call_bytes(q, sound, pcm, &mut places[..room]);
-    put_answer(out, a)
+// Puts the numbers of the fragment decoder's answer, and the state after it.
+fn put_played(answer: &mut Printer, a: Answer, state: State) -> usize {
+    let count = put_numbers(answer, a);
+    records::put_state(answer, state);
+    count
 }
 
-// Kinds 1 and 8. The numbers, and the stream or the file.
-fn ask_bytes(q: &[u8], sound: &[u8], out: &mut [u8]) -> usize {
+// Loads the samples of a question's bytes; none where they are too many.
+fn load<'a>(bytes: &[u8], pcm: &'a mut [i16]) -> &'a [i16] {
+    let a = postlapse::postlapse_load_samples(bytes, pcm);
+    let count = if a.refusal == 0 { a.first } else { 0 };
+    front(pcm, count)
+}
+
+// Asks a call that writes bytes for samples, with so many places for them. The numbers, and the bytes.
+fn ask_bytes<F: FnOnce(&[i16], &mut [u8]) -> Answer>(
+    answer: &mut Printer,
+    samples: &[u8],
+    room: usize,
+    call: F,
+) -> Option<()>
+    requires { F.IsAlwaysCallable call }
+{
     let mut pcm = [0i16; SAMPLES];
-    let n = load(tail(sound, 9), &mut pcm);
-    let mut places = [165u8; BYTES];
-    let told = fill_bytes(q, sound, front_samples(&pcm, n), &mut places, out);
-    put_output(out, told.at, &places, told.count)
+    let mut places = [BYTE; BYTES];
+    let a = call(load(samples, &mut pcm), places.get_mut(..room)?);
+    let count = put_numbers(answer, a);
+    answer.word(filled(&places, count, BYTE)?);
+    Some(())
 }
 
-// Puts a decoder's state: whether the predictor is negative, its magnitude, and the index.
-fn put_state(out: &mut [u8], at: usize, s: State) -> usize {
-    let predictor = s.predictor;
-    let sign = if signed::is_negative(predictor) { 1 } else { 0 };
-    let next = put(out, at, sign);
-    let last = put_eight(out, next, signed::magnitude(predictor) as usize);
-    put_eight(out, last, s.index)
+// Asks a call that writes samples, with so many places for them. What the call puts into the answer, and the samples.
+fn ask_samples<F: FnOnce(&mut Printer, &mut [i16]) -> usize>(
+    answer: &mut Printer,
+    room: usize,
+    call: F,
+) -> Option<()>
+    requires { F.IsAlwaysCallable call }
+{
+    let mut pcm = [SAMPLE; SAMPLES];
+    let count = call(answer, pcm.get_mut(..room)?);
+    records::put_samples(answer, filled(&pcm, count, SAMPLE)?);
+    Some(())
 }
 
-// The number of a sign and a magnitude; the least one has a magnitude of its own.
-fn predictor(negative: bool, m: u32) -> i32 {
-    if m < 2147483648 {
-        return signed::with_sign(negative, m);
-    }
-    -2147483648
+// Kind 1: variant, gain, channels, rate, room, samples.
+fn ask_encoder(mut question: Question, answer: &mut Printer) -> Option<()> {
+    let variant = question.byte();
+    let gain = question.byte();
+    let channels = question.byte();
+    let rate = question.word();
+    let room = question.word() as usize;
+    ask_bytes(answer, question.rest, room, |pcm: &[i16], out: &mut [u8]| {
+        postlapse::postlapse_encode(pcm, channels, rate, variant, gain, out)
+    })
 }
 
-// The state that a question has at byte k.
-fn state_at(q: &[u8], k: usize) -> State {
-    let part = tail(q, k);
-    State {
-        predictor: predictor(byte_at(part, 0) == 1, word_at(part, 1)),
-        index: word_at(part, 9) as usize + 4294967296 * (word_at(part, 13) as usize),
-    }
+// Kind 8: channels, rate, room, samples.
+fn ask_wave_writer(mut question: Question, answer: &mut Printer) -> Option<()> {
+    let channels = question.byte();
+    let rate = question.word();
+    let room = question.word() as usize;
+    ask_bytes(answer, question.rest, room, |pcm: &[i16], out: &mut [u8]| {
+        postlapse::postlapse_write_wave(channels, rate, pcm, out)
+    })
 }
 
-// The numbers of the fragment decoder's answer, and the state after it.
-fn put_played(out: &mut [u8], a: Answer, state: State) -> Told {
-    let told = put_answer(out, a);
-    let at = put_state(out, told.at, state);
-    Told {
-        at,
-        count: told.count,
-    }
+// Kind 3: room, a stream.
+fn ask_decoder(mut question: Question, answer: &mut Printer) -> Option<()> {
+    let room = question.word() as usize;
+    let stream = question.rest;
+    ask_samples(answer, room, |answer: &mut Printer, pcm: &mut [i16]| {
+        put_header(answer, postlapse::postlapse_decode(stream, pcm))
+    })
+}
+
+// Kind 10: room, bytes.
+fn ask_sample_reader(mut question: Question, answer: &mut Printer) -> Option<()> {
+    let room = question.word() as usize;
+    let bytes = question.rest;
+    ask_samples(answer, room, |answer: &mut Printer, pcm: &mut [i16]| {
+        put_numbers(answer, postlapse::postlapse_load_samples(bytes, pcm))
+    })
+}
+
+// What is asked of the fragment decoder.
+#[derive(Clone, Copy)]
+struct Fragment<'a> {
+    version: u8,
+    variant: u8,
+    state: State,
+    bytes: &'a [u8],
 }
 
 // The fragment decoder with the state by value. Its answer has no second number.
-fn play(q: &[u8], pcm: &mut [i16], out: &mut [u8]) -> Told {
-    let s = state_at(q, 4);
+fn play(fragment: Fragment, answer: &mut Printer, pcm: &mut [i16]) -> usize {
     let a = postlapse::postlapse_decode_fragment(
-        byte_at(q, 1),
-        byte_at(q, 2),
-        s.predictor,
-        s.index,
-        tail(q, 21),
+        fragment.version,
+        fragment.variant,
+        fragment.state.predictor,
+        fragment.state.index,
+        fragment.bytes,
         pcm,
     );
     let numbers = Answer {
@@ -254,245 +168,120 @@ fn play(q: &[u8], pcm: &mut [i16], out: &mut [u8]) -> Told {
         predictor: a.predictor,
         index: a.index,
     };
-    put_played(out, numbers, state)
+    put_played(answer, numbers, state)
 }
 
 // The same with the state lent.
-fn play_lent(q: &[u8], pcm: &mut [i16], out: &mut [u8]) -> Told {
-    let s = state_at(q, 4);
-    let r = postlapse::decode_through_lent(byte_at(q, 1), byte_at(q, 2), s, tail(q, 21), pcm);
-    put_played(out, r.answer, r.state)
-}
-
-// The calls that fill samples, by their kinds. The fragment decoder with the state lent is 11 here.
-fn call_samples(q: &[u8], kind: u8, pcm: &mut [i16], out: &mut [u8]) -> Told {
-    if kind == 3 {
-        return put_header(out, postlapse::postlapse_decode(tail(q, 5), pcm));
-    }
-    if kind == 10 {
-        return put_answer(out, postlapse::postlapse_load_samples(tail(q, 5), pcm));
-    }
-    if kind == 7 {
-        return play(q, pcm, out);
-    }
-    play_lent(q, pcm, out)
-}
-
-// Lends the first places to the call, as `fill_bytes` does.
-fn fill_samples(q: &[u8], kind: u8, room: usize, pcm: &mut [i16], out: &mut [u8]) -> Told {
-    if pcm.len() < room {
-        return Told { at: 0, count: 0 };
-    }
-    call_samples(q, kind, &mut pcm[..room], out)
-}
-
-// Kinds 3, 7 and 10, with so many places for samples. The numbers, and the samples.
-fn ask_samples(q: &[u8], kind: u8, room: usize, out: &mut [u8]) -> usize {
-    let mut pcm = [-23131i16; SAMPLES];
-    let told = fill_samples(q, kind, room, &mut pcm, out);
-    put_pcm(out, told, &pcm)
+fn play_lent(fragment: Fragment, answer: &mut Printer, pcm: &mut [i16]) -> usize {
+    let r = postlapse::decode_through_lent(
+        fragment.version,
+        fragment.variant,
+        fragment.state,
+        fragment.bytes,
+        pcm,
+    );
+    put_played(answer, r.answer, r.state)
 }
 
 // Kind 7: version, variant, count, state, a fragment. It is asked by value and with the state lent; where the two answers differ, it
 // has none.
-fn ask_fragment(q: &[u8], out: &mut [u8]) -> usize {
-    let count = byte_at(q, 3) as usize;
-    let n = ask_samples(q, 7, count, out);
-    let mut lent = [0u8; BYTES];
-    let m = ask_samples(q, 11, count, &mut lent);
-    if check::same(front(out, n), front(&lent, m)) {
-        n
+fn ask_fragment_decoder(mut question: Question, answer: &mut Printer) -> Option<()> {
+    let version = question.byte();
+    let variant = question.byte();
+    let count = question.byte() as usize;
+    let fragment = Fragment {
+        version,
+        variant,
+        state: question.state(),
+        bytes: question.rest,
+    };
+    ask_samples(
+        answer,
+        count,
+        |answer: &mut Printer, pcm: &mut [i16]| play(fragment, answer, pcm),
+    )?;
+    let mut lent_out = [0u8; BYTES];
+    let mut lent = Printer::new(&mut lent_out);
+    ask_samples(
+        &mut lent,
+        count,
+        |answer: &mut Printer, pcm: &mut [i16]| play_lent(fragment, answer, pcm),
+    )?;
+    if answer.text() == lent.text() {
+        Some(())
     } else {
-        0
+        None
     }
 }
 
-// What a WAV file says, and where its sample bytes lie.
-fn put_wave(out: &mut [u8], a: WaveAnswer) -> usize {
-    let b = put_eight(out, 0, a.refusal);
-    let c = put_two(out, b, a.channels as usize);
-    let d = put_eight(out, c, a.rate as usize);
-    let e = put_eight(out, d, a.start);
-    put_eight(out, e, a.size)
+// Kinds 4 and 9: what a WAV file says, and where its sample bytes lie, and these. Where they are not the part of the file that start and
+// size name, there is no answer.
+fn put_read(answer: &mut Printer, file: &[u8], a: WaveAnswer, samples: &[u8]) -> Option<()> {
+    answer.word(&a.refusal.to_le_bytes());
+    answer.word(&a.channels.to_le_bytes());
+    answer.word(&u64::from(a.rate).to_le_bytes());
+    answer.word(&a.start.to_le_bytes());
+    answer.word(&a.size.to_le_bytes());
+    if samples != file.get(a.start..)?.get(..a.size)? {
+        return None;
+    }
+    answer.word(samples);
+    Some(())
 }
 
-// The same, and the sample bytes. Where these are not the part of the file that start and size name, there is no answer.
-fn put_read(out: &mut [u8], file: &[u8], a: WaveAnswer, samples: &[u8]) -> usize {
-    let at = put_wave(out, a);
-    if check::same(samples, front(tail(file, a.start), a.size)) {
-        return put_bytes(out, at, samples);
-    }
-    0
-}
-
-// Kinds 4 and 9: a file, for plain and for strict reading.
-fn ask_wave(file: &[u8], kind: u8, out: &mut [u8]) -> usize {
-    if kind == 4 {
-        let a = postlapse::postlapse_read_wave(file);
-        return put_read(out, file, a, wav::wave_samples(file));
-    }
-    let a = postlapse::postlapse_read_strict_wave(file);
-    put_read(out, file, a, wav::strict_samples(file))
-}
-
-// Kinds 5 and 6: what a program reads. What it prints.
-fn ask_program(q: &[u8], kind: u8, out: &mut [u8; commands::ROOM]) -> usize {
-    let mut input = [0u8; commands::READ];
-    let count = put_bytes(&mut input, 0, tail(q, 1));
-    if kind == 5 {
-        return commands::convert(&input, count, out);
-    }
-    commands::report(&input, count, out)
-}
-
-fn ask(q: &[u8], out: &mut [u8; commands::ROOM]) -> usize {
-    let kind = byte_at(q, 0);
-    if kind == 1 {
-        return ask_bytes(q, tail(q, 3), out);
-    }
-    if kind == 8 {
-        return ask_bytes(q, tail(q, 1), out);
-    }
-    if kind == 2 {
-        return put_header(out, postlapse::postlapse_inspect(tail(q, 1))).at;
-    }
-    if kind == 3 || kind == 10 {
-        return ask_samples(q, kind, word_at(q, 1) as usize, out);
-    }
-    if kind == 7 {
-        return ask_fragment(q, out);
-    }
-    if kind == 4 || kind == 9 {
-        return ask_wave(tail(q, 1), kind, out);
-    }
-    ask_program(q, kind, out)
-}
-
-// Whether the first n bytes of `mine` are the answer.
-fn is_same(mine: &[u8; commands::ROOM], n: usize, answer: &[u8]) -> bool {
-    check::same(front(mine, n), answer)
-}
-
-// Whether the answer to a question is the one that was recorded.
-fn is_answered(question: &[u8], answer: &[u8]) -> bool {
-    let mut mine = [0u8; commands::ROOM];
-    let n = ask(question, &mut mine);
-    is_same(&mine, n, answer)
-}
-
-// Whether the next n bytes of the list could be read to the front of a buffer.
-fn read_exact(list: &mut File, buffer: &mut [u8], n: usize) -> bool {
-    if buffer.len() < n {
-        return false;
-    }
-    list.read_exact(&mut buffer[..n]).is_ok()
-}
-
-// Reads what is stored of a question and of its answer, and tries it. The rest of both is zeros.
-fn try_record(list: &mut File, sizes: [u8; 16]) -> Turn {
-    let mut question = [0u8; 65538];
-    if !read_exact(list, &mut question, word_at(&sizes, 4) as usize) {
-        return Turn::Broken;
-    }
-    let mut answer = [0u8; commands::ROOM];
-    if !read_exact(list, &mut answer, word_at(&sizes, 12) as usize) {
-        return Turn::Broken;
-    }
-    let asked = front(&question, word_at(&sizes, 0) as usize);
-    let told = front(&answer, word_at(&sizes, 8) as usize);
-    if is_answered(asked, told) {
-        return Turn::Same;
-    }
-    Turn::Differs
-}
-
-// One question with its answer: the sizes of both and of what is stored of them, four bytes each, then both.
-fn replay_one(list: &mut File) -> Turn {
-    let mut sizes = [0u8; 16];
-    match io::copy(&mut list.by_ref().take(16), &mut &mut sizes[..]) {
-        Ok(0) => Turn::End,
-        Ok(16) => try_record(list, sizes),
-        _ => Turn::Broken,
-    }
-}
-
-// What the whole list gave.
-#[derive(Clone, Copy)]
-struct Tally {
-    answers: u32,
-    differ: u32,
-    whole: bool,
-}
-
-// The list's records, of which there are fewer than a million.
-fn replay_all(list: &mut File) -> Tally {
-    let mut answers: u32 = 0;
-    let mut differ: u32 = 0;
-    let mut left: u32 = 1000000;
-    while 0 < left {
-        left -= 1;
-        match replay_one(list) {
-            Turn::End => {
-                return Tally {
-                    answers,
-                    differ,
-                    whole: true,
-                };
-            }
-            Turn::Same => {
-                answers += 1;
-            }
-            Turn::Differs => {
-                answers += 1;
-                differ += 1;
-            }
-            Turn::Broken => {
-                return Tally {
-                    answers,
-                    differ,
-                    whole: false,
-                };
-            }
+// Asks a question, and puts its answer. Some have none.
+fn ask(mut question: Question, answer: &mut Printer) -> Option<()> {
+    let kind = Kind::try_from(question.byte()).ok()?;
+    let rest = question.rest;
+    match kind {
+        Kind::Encoder => ask_encoder(question, answer),
+        Kind::Inspection => {
+            put_header(answer, postlapse::postlapse_inspect(rest));
+            Some(())
         }
-    }
-    Tally {
-        answers,
-        differ,
-        whole: false,
-    }
-}
-
-// Prints what a file gave.
-fn print_tally(rt: &HostRuntime, name: &str, tally: Tally) -> io::Result<()> {
-    let answers = tally.answers;
-    let differ = tally.differ;
-    println!(rt; "{name}: {answers} answers, {differ} differ")?;
-    if !tally.whole {
-        println!(rt; "the list breaks off")?;
-    }
-    Ok(())
-}
-
-// Replays a file, and prints what it gave.
-fn replay_file(rt: &HostRuntime, name: &str) -> io::Result<()> {
-    match File::open(rt, name) {
-        Ok(mut list) => print_tally(rt, name, replay_all(&mut list)),
-        Err(error) => eprintln!(rt; "{name}: {error}"),
+        Kind::Decoder => ask_decoder(question, answer),
+        Kind::WaveReader => {
+            put_read(
+                answer,
+                rest,
+                postlapse::postlapse_read_wave(rest),
+                wav::wave_samples(rest),
+            )
+        }
+        Kind::Converter => {
+            records::put_printed(answer, rest, commands::convert);
+            Some(())
+        }
+        Kind::Inspector => {
+            records::put_printed(answer, rest, commands::report);
+            Some(())
+        }
+        Kind::FragmentDecoder => ask_fragment_decoder(question, answer),
+        Kind::WaveWriter => ask_wave_writer(question, answer),
+        Kind::StrictReader => put_read(
+            answer,
+            rest,
+            postlapse::postlapse_read_strict_wave(rest),
+            wav::strict_samples(rest),
+        ),
+        Kind::SampleReader => ask_sample_reader(question, answer),
     }
 }
 
 fn main(rt: HostRuntime) -> io::Result<()> {
-    replay_file(&rt, "encode")?;
-    replay_file(&rt, "inspect")?;
-    replay_file(&rt, "decode")?;
-    replay_file(&rt, "fragment")?;
-    replay_file(&rt, "wav")?;
-    replay_file(&rt, "strict")?;
-    replay_file(&rt, "load")?;
-    replay_file(&rt, "write")?;
-    replay_file(&rt, "converter")?;
-    replay_file(&rt, "inspector")?;
-    replay_file(&rt, "ima")?;
-    replay_file(&rt, "wrong")?;
-    Ok(())
+    let names = [
+        "encode",
+        "inspect",
+        "decode",
+        "fragment",
+        "wav",
+        "strict",
+        "load",
+        "write",
+        "converter",
+        "inspector",
+        "ima",
+        "wrong",
+    ];
+    records::replay(&rt, &names, ask)
 }
