@@ -17,16 +17,25 @@ fn frame_count(h: Header) -> usize
     (h.samples as usize + (whole - 1)) / whole
 }
 
+// Internal: samples per channel of frame `f`.
+fn count_of(h: Header, f: usize) -> usize
+    requires { f < frames h }
+    ensures { (result ≡ count h f) × (result ≤ 64) }
+{
+    let whole = h.coding().frame_samples();
+    let left = h.samples as usize - f * whole;
+    left.min(whole)
+}
+
 // Samples per channel of frame `f`, 0 past the last frame.
 pub fn count_at(h: Header, f: usize) -> usize
     ensures { (result ≡ count h f) × (result ≤ 64) }
 {
-    if frame_count(h) <= f {
-        return 0;
+    if f < frame_count(h) {
+        count_of(h, f)
+    } else {
+        0
     }
-    let whole = h.coding().frame_samples();
-    let left = h.samples as usize - f * whole;
-    left.min(whole)
 }
 
 // Samples per channel of the last frame, 0 where there is none.
@@ -37,7 +46,7 @@ pub fn last_count(h: Header) -> usize
     if frames == 0 {
         0
     } else {
-        count_at(h, frames - 1)
+        count_of(h, frames - 1)
     }
 }
 

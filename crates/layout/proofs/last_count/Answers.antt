@@ -10,4 +10,4 @@ returns-then-frames-eq0 c =
     (sym (count_past c.args.h _ (omega (arith, f, c.if-frames-eq0.true))), omega arith)
 
 pub returns-else-frames-eq0 : goal.returns-else-frames-eq0
-returns-else-frames-eq0 c = (rw (c.count_at.ensures.0, c.frame_count-frames.ensures.0), c.count_at.ensures.1)
+returns-else-frames-eq0 c = (rw (c.count_of.ensures.0, c.frame_count-frames.ensures.0), c.count_of.ensures.1)
