@@ -11,12 +11,12 @@ use format::{Coding, Error, Header, State, Variant};
 use layout::Stream;
 
 // Internal: whether the first four bytes are "SQV4".
-#[tactic(auto, using(lists::proofs::Letters::letters_equal), unfolding(format::specs::Inspect::same_letters))]
+#[tactic(auto, unfolding(format::specs::Inspect::same_letters))]
 fn same_letters(file: &[u8]) -> bool
     requires { 4 ≤ length file.now }
     ensures { result ≡ same_letters file.now }
 {
-    file[..4] == b"SQV4"[..]
+    matches!(file, [b'S', b'Q', b'V', b'4', ..])
 }
 
 // Internal: what the first 16 bytes state, where the variant byte names this variant.
