@@ -90,7 +90,8 @@ pub fn known_version(version: u8) -> bool
     version <= 3
 }
 
-// How the fragments of a stream are coded: by its version and its variant.
+// How the fragments of a stream are coded: by its version and its variant. The version stays a number, since the rules compare it and
+// the calls take any.
 #[derive(Clone, Copy)]
 pub struct Coding {
     pub version: u8,

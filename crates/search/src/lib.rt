@@ -62,7 +62,8 @@ fn key_of(state: Reached) -> u64
     128 * (signed::raise(state.state.predictor) as u64) + state.state.index as u64
 }
 
-// Whether a trial with this key and sum stands where the marked one stood, with no sum that wins against it.
+// Whether a trial with this key and sum stands where the marked one stood, with no sum that wins against it. The mark comes by reference:
+// by value the sum was compared first, which is slower.
 fn meets(mark: &Mark, key: u64, tie: u64, sum: u64) -> bool
     ensures { result ≡ true → (mark.now.key ≡ key) × (mark.now.sum + tie ≤ sum) }
 {

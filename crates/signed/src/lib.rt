@@ -59,7 +59,7 @@ pub fn add_clamp_to(x: u32, y: i32, top: u32) -> u32
     (x as i32 + y).clamp(0, top as i32) as u32
 }
 
-// Internal: a number of 16 bits, raised to 0..=65535.
+// Internal: a number of 16 bits, raised to 0..=65535. It comes in 32 bits, as the predictor of a state does, which is laid out for C.
 #[tactic(auto, using(crate::proofs::Raised::raise_is, crate::proofs::Raised::raised_high))]
 pub fn raise(x: i32) -> u32
     requires { mag x ≤ 32767 }

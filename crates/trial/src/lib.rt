@@ -23,7 +23,8 @@ fn pre_gained(samples: &[i16], gain: u8) -> [i16; 63]
     xs
 }
 
-// Internal: the samples, normalised to full scale.
+// Internal: the samples, normalised to full scale. With the function as a parameter this and `pre_gained` would be one, but each caller
+// would need a law about what its closure gave.
 fn normalized(xs: &[i16], volume: u8) -> [i16; 63]
     requires { (length xs.now ≤ 63) × (0 < volume) }
     ensures { take (length xs.now) result ≡ map (normalised volume) xs.now }
