@@ -167,7 +167,14 @@ impl<E: Refusal> From<Result<Wave, E>> for WaveAnswer {
 // ---- the calls
 
 // Encodes at the variant that a byte names.
-fn encode(pcm: &[i16], channels: u8, rate: u32, byte: u8, gain: u8, out: &mut [u8]) -> Result<usize, Error>
+fn encode(
+    pcm: &[i16],
+    channels: u8,
+    rate: u32,
+    byte: u8,
+    gain: u8,
+    out: &mut [u8],
+) -> Result<usize, Error>
     ensures { (answered result ≡ on_result length (encode_for_c byte gain pcm.now channels rate (length out.old)))
         × (out.new ≡ output_after (encode_for_c byte gain pcm.now channels rate (length out.old)) out.old) }
 {
