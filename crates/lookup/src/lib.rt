@@ -3,11 +3,11 @@
 // proofs/Steps.
 #![tactic(auto)]
 
-ghost use Rattle.std.specs.Prelude.{◌≡◌, ◌<◌, ◌≤◌, ◌^◌};
+ghost use Rattle.std.specs.Prelude.{◌≡◌, ◌+◌, ◌<◌, ◌≤◌, ◌^◌, length, get_or};
 ghost use Rattle.signed.specs.Signed.{depth};
 ghost use Rattle.format.specs.Layout.{bits};
 ghost use Rattle.format.specs.Step.{stepped};
-ghost use Rattle.lookup.specs.Lookup.{Lookup, Held, lowered, state_of};
+ghost use Rattle.lookup.specs.Lookup.{Lookup, Held, kept, lowered, looked, state_of};
 
 use entries::{
     H_DIFFERENCES, H_NEXTS, L_DIFFERENCES, L_NEXTS, L_PLUS_DIFFERENCES, LEGACY_L_PLUS_DIFFERENCES,
@@ -57,34 +57,60 @@ impl Tables {
     pub fn keep(self, state: Reached) -> Kept
         ensures { (result.variant ≡ self.coding.variant) × (state_of self.coding.variant result.point ≡ state.state) }
     {
-        let state = state.state;
-        let point = Point {
-            depth: signed::depth(state.predictor),
-            at: state.index * row_size(self.coding.variant),
-        };
+        let point = keep(self.coding.variant, state);
         Kept {
             variant: self.coding.variant,
             point,
         }
     }
 
-    // Internal: the state after a code. The next row is read from the table's rest behind the code, so that it waits for the row
-    // alone.
+    // Internal: the state after a code.
     pub fn step(self, kept: Kept, code: u8) -> Kept
         requires { (kept.variant ≡ self.coding.variant) × (code < 2 ^ bits self.coding.variant) }
         ensures { (result.variant ≡ self.coding.variant)
             × (state_of self.coding.variant result.point ≡ stepped self.coding.version self.coding.variant (state_of self.coding.variant kept.point) code) }
     {
-        let from = kept.point.at;
-        let code = code as usize;
-        let depth = move_depth(kept.point.depth, self.differences[from + code]);
-        let rest = &self.nexts[code..];
-        let at = rest[from] as usize;
+        let point = step(kept.point, code, self.differences, self.nexts);
         Kept {
             variant: self.coding.variant,
-            point: Point { depth, at },
+            point,
         }
     }
+}
+
+// A state, as the tables take it.
+pub fn keep(variant: Variant, state: Reached) -> Point
+    ensures { result ≡ kept variant state.state }
+{
+    Point {
+        depth: signed::depth(state.state.predictor),
+        at: state.state.index * row_size(variant),
+    }
+}
+
+// Internal: the state after a code. The next row is read from the table's rest behind the code, so that it waits for the row alone.
+#[tactic(auto, using(crate::proofs::Steps::rest_at), unfolding(crate::specs::Lookup::looked))]
+pub fn step(s: Point, code: u8, differences: &[u32], nexts: &[u16]) -> Point
+    requires { (s.depth ≤ 65535) × (s.at + code < length differences.now) × (length nexts.now ≡ length differences.now)
+        × (65535 ≤ get_or differences.now (s.at + code) 0) }
+    ensures { (result ≡ looked differences.now nexts.now s code) × (result.depth ≤ 65535) }
+{
+    let from = s.at;
+    let code = code as usize;
+    let depth = move_depth(s.depth, differences[from + code]);
+    let rest = &nexts[code..];
+    let at = rest[from] as usize;
+    Point { depth, at }
+}
+
+// Internal: a state, as the tables gave it.
+pub fn state_of(variant: Variant, s: Point) -> State
+    requires { s.depth ≤ 65535 }
+    ensures { result ≡ state_of variant s }
+{
+    let predictor = signed::at_depth(s.depth) as i32;
+    let index = s.at / row_size(variant);
+    State { predictor, index }
 }
 
 // How far a predictor lies below 32767, and where the row of an index begins.
@@ -114,10 +140,8 @@ impl Kept {
     pub fn state(self) -> Reached
         ensures { result.state ≡ state_of self.variant self.point }
     {
-        let predictor = signed::at_depth(self.point.depth) as i32;
-        let index = self.point.at / row_size(self.variant);
         Reached {
-            state: State { predictor, index },
+            state: state_of(self.variant, self.point),
         }
     }
 }

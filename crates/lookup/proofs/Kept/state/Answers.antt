@@ -1,15 +1,6 @@
 -- `lookup::Kept::state` meets its contract. Assumes nothing.
-use native.Mathlib.Omega.{arith}
-use Rattle.signed.proofs.Laws.{back16, back32}
-use Rattle.lookup.specs.Lookup.{state_of}
 use Rattle.lookup.proofs.Steps.{held_depth}
 use Rattle.lookup.proofs.Kept.state.Goals as goal
 
-pub at_depth-predictor-requires : goal.at_depth-predictor-requires
-at_depth-predictor-requires c = held_depth c.args.self.held
-
-pub returns : goal.returns
-unfolding state_of
-returns c =
-    let d = c.at_depth-predictor in
-    rw (back16 d.result d.type_inv, back32 d.result (omega (arith, d.type_inv)), d.ensures, c.row_size.ensures)
+pub state_of-requires : goal.state_of-requires
+state_of-requires c = held_depth c.args.self.held
