@@ -16,7 +16,8 @@ fn fragment_fits(coding: Coding, fragment: &[u8], n: usize) -> bool
     fragment.len() == coding.fragment_size() && n <= coding.frame_samples()
 }
 
-// The state to decode from, if it is one of a decoding; a fragment that starts anew takes any, and the zero state stands for it.
+// The state to decode from, if it is one of a decoding; a fragment that starts anew takes any, and the zero state stands for it. No
+// Option: such a fragment does not use the state, and `fragment_core` takes one in every version, so the choice would only move there.
 fn usable(coding: Coding, state: State) -> Result<Reached, Error>
     ensures { MatchResult result (λ reached. (state_fits coding.version state ≡ true) × (anew coding.version ≡ false → reached.state ≡ state))
         (λ error. (error ≡ Error.InvalidState) × (state_fits coding.version state ≡ false)) }
@@ -24,7 +25,7 @@ fn usable(coding: Coding, state: State) -> Result<Reached, Error>
     if coding.starts_anew() {
         return Ok(Reached::zero());
     }
-    if state.predictor < -32768 || 32767 < state.predictor || 88 < state.index {
+    if i16::try_from(state.predictor).is_err() || state.index > State::MAX_STEP_INDEX as usize {
         return Err(Error::InvalidState);
     }
     Ok(Reached { state })
@@ -43,6 +44,7 @@ fn decode(coding: Coding, state: State, fragment: &[u8], out: &mut [i16]) -> Res
     }
     let start = usable(coding, state)?;
     let end = fragment_core::decode_fragment(coding, start, fragment, out);
+    // Not by `fragment_core::state_after`: that one takes a `Reached`, and where fragments start anew the given state may be none.
     if coding.starts_anew() {
         Ok(state)
     } else {

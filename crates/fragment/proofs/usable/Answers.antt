@@ -1,30 +1,48 @@
--- `fragment::usable` meets its contract: the tests of the two bounds are one of the magnitude. Assumes nothing.
-use mathlib.Core.Path.{refl, sym}
+-- `fragment::usable` meets its contract: the conversion's test of the predictor is one of the magnitude. Assumes nothing.
+use Prim.Native.Nat.{◌≤◌}
+use native.Mathlib.Decide.{dec_le}
+use native.Mathlib.Omega.{arith}
+use mathlib.Core.Path.{◌≡◌, refl, sym}
+use mathlib.Core.Bool.{false}
+use lib.Dec.{leb}
+use lib.IntN.{ℤ}
+use lib.Signed.{mag}
 use mir.Val.{SFits}
-use mir.Syntax.{w32}
+use mir.Syntax.{w16, w32}
 use mir.Facts.{to_z-of_z}
 use borrow.Author.Rules.{rules}
 use borrow.Author.Tests.{le-leb, lt-leb}
+use Rattle.std.specs.declared.result.Result.{Result}
+use Rattle.std.specs.declared.result.Result.TheVariants.{Ok, Err}
+use Rattle.std.specs.Result.{OkIff, is_ok}
 use Rattle.format.specs.Decode.{state_fits}
-use Rattle.signed.proofs.Laws.{below_out, above_out, between_in}
 use Rattle.fragment.proofs.usable.Goals as goal
-use Rattle.fragment.proofs.usable.Goals.{then-state-ltminus32768-via-then-state-ltminus32768, then-state-ltminus32768-via-else-state-ltminus32768+then-state-gt32767, then-state-ltminus32768-via-else-state-ltminus32768+else-state-gt32767+then-state-gt88}
+use Rattle.fragment.proofs.usable.Goals.{then-is_err-via-then-is_err, then-is_err-via-else-is_err+then-state}
+
+-- a number's conversion to 16 bits goes well where its magnitude fits
+by_magnitude : {E : Type 0} (r : Result ℤ E) (z : ℤ) → OkIff r (SFits w16 z) z → leb (mag z) 32767 ≡ is_ok r
+by_magnitude (Ok x) z h = le-leb (mag z) 32767 (search rules)
+by_magnitude (Err e) z h = go (dec_le (mag z) 32767)
+  where
+    go : Dec (mag z ≤ 32767) → leb (mag z) 32767 ≡ false
+    go (yes f) = absurd (h (search rules))
+    go (no f) = lt-leb (mag z) 32767 (omega arith)
 
 pub returns-then-starts_anew : goal.returns-then-starts_anew
 unfolding state_fits
-returns-then-starts_anew c = (rw (sym c.if-starts_anew.ensures), λ e. cc)
+returns-then-starts_anew c = (rw (← c.if-starts_anew.ensures), λ e. cc)
 
-pub returns-then-state-ltminus32768 : goal.returns-then-state-ltminus32768
+pub returns-then-is_err : goal.returns-then-is_err
 unfolding state_fits
-returns-then-state-ltminus32768 c =
+returns-then-is_err c =
     let s = c.args.state in
-    let f : SFits w32 s.predictor = search rules in (
+    let f : SFits w32 s.predictor = search rules in
+    let e = by_magnitude c.try_from.result s.predictor (rw (to_z-of_z f) at c.try_from.ensures) in (
       refl,
-      rw (sym c.if-starts_anew.ensures)
-          (elim c.then-state-ltminus32768.branch [
-            | then-state-ltminus32768-via-then-state-ltminus32768 w ↦ rw (below_out s.predictor (rw (to_z-of_z f) at w.if-state-ltminus32768.true))
-            | then-state-ltminus32768-via-else-state-ltminus32768+then-state-gt32767 w ↦ rw (above_out s.predictor (rw (to_z-of_z f) at w.if-state-gt32767.true))
-            | then-state-ltminus32768-via-else-state-ltminus32768+else-state-gt32767+then-state-gt88 w ↦ rw (between_in s.predictor (rw (to_z-of_z f) at w.if-state-ltminus32768.false) (rw (to_z-of_z f) at w.if-state-gt32767.false), lt-leb s.index 88 w.if-state-gt88.true)
+      rw (sym c.if-starts_anew.ensures, e)
+          (elim c.then-is_err.branch [
+            | then-is_err-via-then-is_err w ↦ rw w.if-is_err.ensures.negation
+            | then-is_err-via-else-is_err+then-state w ↦ rw (w.if-is_err.ensures.negation, lt-leb s.index 88 w.if-state.true)
           ]),
     )
 
@@ -32,11 +50,6 @@ pub returns : goal.returns
 unfolding state_fits
 returns c =
     let s = c.args.state in
-    let f : SFits w32 s.predictor = search rules in (
-      rw (
-        sym c.if-starts_anew.ensures,
-        between_in s.predictor (rw (to_z-of_z f) at c.if-state-ltminus32768.false) (rw (to_z-of_z f) at c.if-state-gt32767.false),
-        le-leb s.index 88 c.if-state-gt88.false,
-      ),
-      λ e. refl,
-    )
+    let f : SFits w32 s.predictor = search rules in
+    let e = by_magnitude c.try_from.result s.predictor (rw (to_z-of_z f) at c.try_from.ensures) in
+    (rw (sym c.if-starts_anew.ensures, e, c.if-is_err.ensures.negation, le-leb s.index 88 c.if-state.false), λ e. refl)
