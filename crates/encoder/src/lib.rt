@@ -102,16 +102,15 @@ pub fn encode(
     if pcm.len() % count != 0 {
         return Err(Error::MisalignedInterleavedSamples);
     }
-    let samples = pcm.len() / count;
-    if 4294967295 < samples {
+    let Ok(samples) = u32::try_from(pcm.len() / count) else {
         return Err(Error::TooManySamples);
-    }
+    };
     let h = Header {
         version: format::VERSION,
         variant: settings.variant,
         channels,
         rate,
-        samples: samples as u32,
+        samples,
     };
     let needed = layout::stream_length(h);
     if out.len() < needed {

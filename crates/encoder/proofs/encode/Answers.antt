@@ -1,6 +1,8 @@
 -- `encoder::encode` meets its contract. Assumes nothing.
 use mathlib.Core.Path.{refl}
+use Prim.Native.Nat.{◌/◌, ◌<◌}
 use native.Mathlib.Omega.{arith}
+use lib.ListN.{length}
 use Rattle.format.proofs.Sizes.{channels_few}
 use Rattle.format.specs.Answers.{number_of, values_of}
 use Rattle.format.specs.Encode.{header_written, too_many, encode_call}
@@ -26,23 +28,25 @@ pub returns-then-pcm-count-ne0 : goal.returns-then-pcm-count-ne0
 unfolding encode_call number_of values_of
 returns-then-pcm-count-ne0 c = as_refused _ _ _ _ _ E.MisalignedInterleavedSamples (search checks depth 12)
 
-pub nonzero_div-samples : goal.nonzero_div-samples
-nonzero_div-samples c = (channels_few _ _ (via _ _ _ c.channels_fit.ensures c.if-not-channels_fit.false)).0
+pub nonzero_div-pcm : goal.nonzero_div-pcm
+nonzero_div-pcm c = (channels_few _ _ (via _ _ _ c.channels_fit.ensures c.if-not-channels_fit.false)).0
 
-pub returns-then-samples-gt4294967295 : goal.returns-then-samples-gt4294967295
+pub returns-in_default : goal.returns-in_default
 unfolding encode_call number_of values_of too_many
-returns-then-samples-gt4294967295 c = as_refused _ _ _ _ _ E.TooManySamples (search checks depth 12)
+returns-in_default c =
+    let many : 4294967295 < length c.args.pcm.now / c.args.channels = omega (arith, c.in_default.ensures) in
+    as_refused _ _ _ _ _ E.TooManySamples (search checks depth 12)
 
 pub returns-then-out-needed : goal.returns-then-out-needed
 unfolding header_written
-returns-then-out-needed c = as_refused _ _ _ _ _ (E.OutputTooShort _) (too_short c.args.settings _ _ _ _ (via _ _ _ c.channels_fit.ensures c.if-not-channels_fit.false) c.if-rate-eq0.false c.if-pcm-count-ne0.false c.if-samples-gt4294967295.false _ (c.stream_length-needed.ensures) c.if-out-needed.true)
+returns-then-out-needed c = as_refused _ _ _ _ _ (E.OutputTooShort _) (too_short c.args.settings _ _ _ _ (via _ _ _ c.channels_fit.ensures c.if-not-channels_fit.false) c.if-rate-eq0.false c.if-pcm-count-ne0.false (omega (arith, c.in-Ok.ensures.0)) _ (rw c.in-Ok.ensures.1 at c.stream_length-needed.ensures) c.if-out-needed.true)
 
 pub put_fragments-requires : goal.put_fragments-requires
 unfolding frames
 put_fragments-requires c =
     let fit = channels_few _ _ (via _ _ _ c.channels_fit.ensures c.if-not-channels_fit.false) in
-    (fit.0, omega arith, c.if-samples-gt4294967295.false, rw c.new.ensures (headed_length _ c.args.out.now _ _ c.put_header.ensures c.stream_length-needed.ensures c.if-out-needed.false))
+    (fit.0, omega arith, omega (arith, c.in-Ok.ensures.0), rw c.new.ensures (rw c.in-Ok.ensures.1 at (headed_length _ c.args.out.now _ _ c.put_header.ensures c.stream_length-needed.ensures c.if-out-needed.false)))
 
 pub returns : goal.returns
 unfolding header_written frames
-returns c = as_written _ _ _ _ _ _ _ _ _ (long_enough c.args.settings _ _ _ _ (via _ _ _ c.channels_fit.ensures c.if-not-channels_fit.false) c.if-rate-eq0.false c.if-pcm-count-ne0.false c.if-samples-gt4294967295.false _ (c.stream_length-needed.ensures) c.if-out-needed.false) refl c.stream_length-needed.ensures c.put_header.ensures (rw c.new.ensures at c.put_fragments.ensures)
+returns c = as_written _ _ _ _ _ _ _ _ _ (long_enough c.args.settings _ _ _ _ (via _ _ _ c.channels_fit.ensures c.if-not-channels_fit.false) c.if-rate-eq0.false c.if-pcm-count-ne0.false (omega (arith, c.in-Ok.ensures.0)) _ (rw c.in-Ok.ensures.1 at c.stream_length-needed.ensures) c.if-out-needed.false) (rw c.in-Ok.ensures.1 refl) c.stream_length-needed.ensures c.put_header.ensures (rw c.new.ensures at c.put_fragments.ensures)
