@@ -43,18 +43,19 @@ fn put_header(out: &mut [u8], h: Header)
     requires { 16 ≤ length out.old }
     ensures { out.new ≡ header_bytes h ++ drop 16 out.old }
 {
-    out[..16].copy_from_slice(&header_bytes(h));
+    out[..layout::HEADER_SIZE].copy_from_slice(&header_bytes(h));
 }
 
-// Internal: n samples of one channel, from sample `first` of it on; sample w lies at (first + w) * channels + channel.
+// Internal: n samples of one channel, from sample `first` of it on, at the front of 63 places, since the codec uses no heap; sample w
+// lies at (first + w) * channels + channel.
 fn gather(pcm: &[i16], first: usize, channels: usize, channel: usize, n: usize) -> [i16; 63]
     requires { (n ≤ 63) × (channel < channels) × ((first + n) * channels ≤ length pcm.now) }
     ensures { take n result ≡ tabulate (λ w. get_or pcm.now ((first + w) * channels + channel) (pos 0)) n }
 {
     let mut r = [0i16; 63];
-    for w in 0..n {
+    for (w, x) in r[..n].iter_mut().enumerate() {
         let j = (first + w) * channels + channel;
-        r[w] = pcm[j];
+        *x = pcm[j];
     }
     r
 }
@@ -69,13 +70,14 @@ fn put_fragments(coder: &Coder, pcm: &[i16], channels: usize, out: &mut [u8])
     let coding = Coding::written(coder.settings.variant);
     let size = coding.fragment_size();
     let total = pcm.len() / channels;
-    let places = (total + 62) / 63 * channels;
+    let whole = Variant::FRAGMENT_SAMPLES;
+    let places = (total + (whole - 1)) / whole * channels;
     for p in 0..places {
         let c = p % channels;
-        let first = p / channels * 63;
-        let n = Variant::FRAGMENT_SAMPLES.min(total.saturating_sub(first));
+        let first = p / channels * whole;
+        let n = whole.min(total.saturating_sub(first));
         let s = gather(pcm, first, channels, c, n);
-        let at = 16 + p * size;
+        let at = layout::HEADER_SIZE + p * size;
         let end = at + size;
         trial::encode_fragment(coder, &s[..n], &mut out[at..end]);
     }
@@ -121,7 +123,7 @@ pub fn encode(
     Ok(needed)
 }
 
-// The same, with the Rust's parameters.
+// The same, with the reference Rust's parameters. It stays beside `encode` since the calls for C use it.
 pub fn encode_interleaved(
     pcm: &[i16],
     channels: u8,

@@ -6,6 +6,7 @@ use mir.Val.{SFits}
 use Prim.Native.Nat.{◌+◌, ◌*◌}
 use lib.IntN.{pos}
 use lib.ListN.{length, get_or, length-set}
+use Rattle.std.proofs.lemmas.List.{length-take-le}
 use Rattle.lists.specs.Lists.{tabulate}
 use Rattle.lists.proofs.ByIndex.{fill_next}
 use Rattle.signed.proofs.Laws.{back16}
@@ -15,11 +16,11 @@ use Rattle.encoder.proofs.gather.Goals.{In-loop-w}
 
 -- the place that a turn reads
 spot : (c : In-loop-w) → Place c.args.first c.loop-w.w c.args.channels c.args.channel (length c.args.pcm.now)
-spot c = place_in c.args.first c.loop-w.w c.args.n c.args.channels c.args.channel (length c.args.pcm.now) (search rules) (search rules) (search rules)
+spot c = place_in c.args.first c.loop-w.w c.args.n c.args.channels c.args.channel (length c.args.pcm.now) (omega (arith, c.loop-w.invariant.0)) (search rules) (search rules)
 
 pub loop-w-init : goal.loop-w-init
 unfolding tabulate
-loop-w-init c = (refl, refl)
+loop-w-init c = (length-take-le c.args.n _ (omega (arith, c.requires.0)), refl)
 
 pub loop-w-preserved : goal.loop-w-preserved
 loop-w-preserved c =

@@ -8,4 +8,4 @@ use Rattle.encoder.proofs.gather.Given as goal
 
 abbrev pub invariant-loop-w : goal.invariant-loop-w
 invariant-loop-w l =
-    (length l.r ≡ 63) × (take l.w l.r ≡ tabulate (λ k. get_or l.pcm ((l.first + k) * l.channels + l.channel) (pos 0)) l.w)
+    (length l.x-items ≡ l.n) × (take l.w l.x-items ≡ tabulate (λ k. get_or l.pcm ((l.first + k) * l.channels + l.channel) (pos 0)) l.w)
