@@ -18,8 +18,8 @@ fn put(stream: Stream, p: usize, samples: &[i16; 64], out: &mut [i16])
     let channels = stream.header.channels as usize;
     let first = p / channels * stream.header.coding().frame_samples();
     let channel = p % channels;
-    for w in 0..stream.samples_at(p) {
-        out[(first + w) * channels + channel] = samples[w];
+    for (w, sample) in samples[..stream.samples_at(p)].iter().enumerate() {
+        out[(first + w) * channels + channel] = *sample;
     }
 }
 
