@@ -38,8 +38,8 @@ fn decode_lanes<const N: usize>(
 {
     let channels = player.stream.header.channels as usize;
     let mut before = [Reached::zero(); N];
-    for k in 0..N {
-        before[k] = states[(p + k) % channels];
+    for (k, state) in before.iter_mut().enumerate() {
+        *state = states[(p + k) % channels];
     }
     let mut samples = [[0i16; 64]; N];
     let after = player.play(p, before, &mut samples);

@@ -7,7 +7,7 @@ use Rattle.decoder.proofs.Lanes.{Taken}
 use Rattle.decoder.proofs.decode_lanes.Given as goal
 
 abbrev pub invariant-loop-k : goal.invariant-loop-k
-invariant-loop-k g l = Taken l.player.stream.header.channels l.p g.row.N l.k l.states l.before
+invariant-loop-k g l = Taken l.player.stream.header.channels l.p g.row.N l.k l.states l.state-items
 
 abbrev pub invariant-loop-k-2 : goal.invariant-loop-k-2
 invariant-loop-k-2 g l =
