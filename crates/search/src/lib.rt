@@ -7,7 +7,7 @@ ghost use Rattle.format.specs.Encode.{square, best_trial};
 ghost use Rattle.search.specs.Search.{key, Ran, Beaten, Beats, tie, start_at, Tried};
 
 use advance::Coder;
-use format::Reached;
+use format::{Reached, State};
 
 // How many starts are tried first, as bounds: normalised samples are loud, and want large steps.
 const BOUNDS: u8 = 4;
@@ -95,7 +95,8 @@ fn whole_sum(coder: &Coder, fragment: Fragment, index: u8, trace: &mut [Mark; 63
 }
 
 // Internal: the same, for a start that is tried against the best. The trial is given up where its sum can no longer win, and where
-// it meets the best one: from there on the two go alike.
+// it meets the best one: from there on the two go alike. One function with `whole_sum`, over an `Option` of the best, proves, but is no
+// plainer: the first start's sum would come as an `Option` that is never `None`, and each sample would ask whether there is a best.
 fn winning_sum(
     coder: &Coder,
     fragment: Fragment,
@@ -133,7 +134,7 @@ fn start_of(turn: u8) -> u8
     ensures { (result ≡ start_at turn) × (result ≤ 88) }
 {
     if turn < BOUNDS {
-        88 - 8 * turn
+        State::MAX_STEP_INDEX - 8 * turn
     } else {
         turn - BOUNDS
     }
