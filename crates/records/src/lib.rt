@@ -16,7 +16,7 @@ use commands::ROOM;
 use format::State;
 pub use kind::Kind;
 pub use list::replay;
-pub use question::Question;
+pub use question::{Fragment, Question};
 use text::Printer;
 
 // The first n elements, all where there are no more.

@@ -9,6 +9,16 @@ pub struct Question<'a> {
     pub rest: &'a [u8],
 }
 
+// What is asked of the fragment decoder: with a place for each of `count` samples.
+#[derive(Clone, Copy)]
+pub struct Fragment<'a> {
+    pub version: u8,
+    pub variant: u8,
+    pub count: u8,
+    pub state: State,
+    pub bytes: &'a [u8],
+}
+
 impl<'a> Question<'a> {
     // The next N bytes, and zeros where fewer are left.
     fn chunk<const N: usize>(&mut self) -> [u8; N]
@@ -53,7 +63,9 @@ impl<'a> Question<'a> {
     }
 
     // The next decoder's state: whether the predictor is negative, its magnitude, and the index. A predictor that is too large is the least.
-    pub fn state(&mut self) -> State {
+    pub fn state(&mut self) -> State
+        ensures rest { self.new.rest.now ≡ drop 17 self.old.rest.now }
+    {
         let negative = self.byte() == 1;
         let magnitude = self.long();
         let predictor = match i64::try_from(magnitude) {
@@ -63,6 +75,26 @@ impl<'a> Question<'a> {
         State {
             predictor,
             index: self.long() as usize,
+        }
+    }
+
+    // The question as one to the fragment decoder: version, variant, count, state, a fragment.
+    pub fn fragment(mut self) -> Fragment<'a>
+        ensures version { result.version ≡ slice_index self.entry.rest.now 0 }
+        ensures variant { result.variant ≡ slice_index self.entry.rest.now 1 }
+        ensures count { result.count ≡ slice_index self.entry.rest.now 2 }
+        ensures bytes { result.bytes.now ≡ drop 20 self.entry.rest.now }
+    {
+        let version = self.byte();
+        let variant = self.byte();
+        let count = self.byte();
+        let state = self.state();
+        Fragment {
+            version,
+            variant,
+            count,
+            state,
+            bytes: self.rest,
         }
     }
 }
