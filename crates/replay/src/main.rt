@@ -5,12 +5,25 @@
 // for each file how many answers there were and how many differ.
 #![tactic(auto)]
 
+ghost use Rattle.outcome.specs.Outcome.{listed};
+
 use format::{Error, Settings, State, Variant};
 use outcome::{Refusal, Values};
-use records::{Kind, Question, front};
+use postlapse::Answer;
+use records::{Fragment, Kind, Question, front};
 use std::io;
 use text::Printer;
 use wav_format::WaveError;
+
+// The most samples of a question.
+const SAMPLES: usize = 1024;
+
+// The places for a stream and for a WAV file of so many samples, more than enough, and what each holds before a call.
+const STREAM: usize = 1024;
+
+const FILE: usize = 2148;
+
+const BYTE: u8 = 165;
 
 // A refusal: 0, its number, how many numbers it returns, and those in eight bytes each. Where the answer is a result, it is put already.
 fn finish<E: Refusal>(asked: Result<(), E>, answer: &mut Printer) {
@@ -44,9 +57,9 @@ fn ask_encoder(mut question: Question, answer: &mut Printer) -> Result<(), Error
     let gain = question.byte();
     let channels = question.byte();
     let rate = question.word();
-    let mut pcm = [0i16; 1024];
+    let mut pcm = [0i16; SAMPLES];
     let samples = load(question.rest, &mut pcm);
-    let mut stream = [165u8; 1024];
+    let mut stream = [BYTE; STREAM];
     let length = encoder::encode(
         Settings { variant, gain },
         samples,
@@ -70,7 +83,7 @@ fn ask_inspection(question: Question, answer: &mut Printer) -> Result<(), Error>
 
 // Kind 3: a stream. A result: 1, and the samples.
 fn ask_decoder(question: Question, answer: &mut Printer) -> Result<(), Error> {
-    let mut pcm = [0i16; 1024];
+    let mut pcm = [0i16; SAMPLES];
     let header = decoder::decode(question.rest, &mut pcm)?;
     let count = header.samples as usize * header.channels as usize;
     answer.word(&[1]);
@@ -93,9 +106,9 @@ fn ask_wave_reader(question: Question, answer: &mut Printer) -> Result<(), WaveE
 fn ask_wave_writer(mut question: Question, answer: &mut Printer) -> Result<(), WaveError> {
     let channels = question.byte();
     let rate = question.word();
-    let mut pcm = [0i16; 1024];
+    let mut pcm = [0i16; SAMPLES];
     let samples = load(question.rest, &mut pcm);
-    let mut file = [165u8; 2148];
+    let mut file = [BYTE; FILE];
     let length = wav_writer::write_pcm16_wave(channels, rate, samples, &mut file)?;
     answer.word(&[1]);
     answer.word(front(&file, length));
@@ -107,15 +120,6 @@ fn put_played(answer: &mut Printer, state: State, samples: &[i16]) {
     answer.word(&[1]);
     records::put_state(answer, state);
     records::put_samples(answer, samples);
-}
-
-// What is asked of the fragment decoder.
-#[derive(Clone, Copy)]
-struct Fragment<'a> {
-    version: u8,
-    variant: u8,
-    state: State,
-    bytes: &'a [u8],
 }
 
 // The fragment decoder with the state by value.
@@ -133,8 +137,42 @@ fn play(fragment: Fragment, pcm: &mut [i16], answer: &mut Printer) -> Result<(),
     Ok(())
 }
 
-// The same with the state lent. Of its refusals 7 returns a number, and 14 and 15 none.
-fn play_lent(fragment: Fragment, pcm: &mut [i16], answer: &mut Printer) {
+// A refusal of the fragment decoder with the state lent.
+#[derive(Clone, Copy)]
+struct Lent {
+    number: u8,
+    values: Values,
+}
+
+impl Refusal for Lent {
+    ghost number_of = { λ lent. lent.number };
+
+    ghost values_of = { λ lent. listed lent.values };
+
+    fn number(self) -> u8 {
+        self.number
+    }
+
+    fn values(self) -> Values {
+        self.values
+    }
+}
+
+// How many samples the answer for C gives, or why it refuses. 7 and 8 return a number, and the fragment decoder's other refusals none.
+fn lent_count(answer: Answer) -> Result<usize, Lent> {
+    let values = match answer.refusal {
+        0 => return Ok(answer.first),
+        7 | 8 => Values::One(answer.first),
+        _ => Values::Zero,
+    };
+    Err(Lent {
+        number: (answer.refusal % 256) as u8,
+        values,
+    })
+}
+
+// The same with the state lent.
+fn play_lent(fragment: Fragment, pcm: &mut [i16], answer: &mut Printer) -> Result<(), Lent> {
     let r = postlapse::decode_through_lent(
         fragment.version,
         fragment.variant,
@@ -142,39 +180,26 @@ fn play_lent(fragment: Fragment, pcm: &mut [i16], answer: &mut Printer) {
         fragment.bytes,
         pcm,
     );
-    match r.answer.refusal {
-        0 => put_played(answer, r.state, front(pcm, r.answer.first)),
-        7 => {
-            answer.word(&[0, 7, 1]);
-            answer.word(&r.answer.first.to_le_bytes());
-        }
-        refusal => answer.word(&[0, (refusal % 256) as u8, 0]),
-    }
+    let count = lent_count(r.answer)?;
+    put_played(answer, r.state, front(pcm, count));
+    Ok(())
 }
 
 // Kind 7: version, variant, count, state, a fragment. A result: 1, the state after it, and the samples. It is asked by value and with
 // the state lent; where the two answers differ, it has none.
-fn ask_fragment_decoder(mut question: Question, answer: &mut Printer) -> Option<()> {
-    let version = question.byte();
-    let variant = question.byte();
-    let count = question.byte() as usize;
-    let fragment = Fragment {
-        version,
-        variant,
-        state: question.state(),
-        bytes: question.rest,
-    };
+fn ask_fragment_decoder(question: Question, answer: &mut Printer) -> Option<()> {
+    let fragment = question.fragment();
+    let count = fragment.count as usize;
     let mut pcm = [0i16; 64];
     finish(play(fragment, pcm.get_mut(..count)?, answer), answer);
     let mut lent_pcm = [0i16; 64];
     let mut lent_out = [0u8; 160];
     let mut lent = Printer::new(&mut lent_out);
-    play_lent(fragment, lent_pcm.get_mut(..count)?, &mut lent);
-    if answer.text() == lent.text() {
-        Some(())
-    } else {
-        None
-    }
+    finish(
+        play_lent(fragment, lent_pcm.get_mut(..count)?, &mut lent),
+        &mut lent,
+    );
+    (answer.text() == lent.text()).then_some(())
 }
 
 // Asks a question, and puts its answer. Some have none.
