@@ -7,7 +7,7 @@
 
 use format::State;
 use postlapse::{Answer, HeaderAnswer, WaveAnswer};
-use records::{Kind, Question, front};
+use records::{Fragment, Kind, Question, front};
 use std::io;
 use text::Printer;
 
@@ -24,11 +24,12 @@ const SAMPLE: i16 = -23131;
 // The first `count` places of an output; none where a place behind them has been changed.
 fn filled<T: PartialEq + Copy>(places: &[T], count: usize, before: T) -> Option<&[T]> {
     let (first, rest) = places.split_at_checked(count)?;
-    if rest.iter().all(|place| *place == before) {
-        Some(first)
-    } else {
-        None
-    }
+    rest.iter().all(|place| *place == before).then_some(first)
+}
+
+// How many places an answer says that the call has filled.
+fn filled_count(a: Answer) -> usize {
+    if a.refusal == 0 { a.first } else { 0 }
 }
 
 // Puts the numbers of an answer, in eight bytes each. It says how many places it has filled.
@@ -36,7 +37,7 @@ fn put_numbers(answer: &mut Printer, a: Answer) -> usize {
     answer.word(&a.refusal.to_le_bytes());
     answer.word(&a.first.to_le_bytes());
     answer.word(&a.second.to_le_bytes());
-    if a.refusal == 0 { a.first } else { 0 }
+    filled_count(a)
 }
 
 // Puts the numbers of an answer, and its header.
@@ -64,8 +65,7 @@ fn put_played(answer: &mut Printer, a: Answer, state: State) -> usize {
 
 // Loads the samples of a question's bytes; none where they are too many.
 fn load<'a>(bytes: &[u8], pcm: &'a mut [i16]) -> &'a [i16] {
-    let a = postlapse::postlapse_load_samples(bytes, pcm);
-    let count = if a.refusal == 0 { a.first } else { 0 };
+    let count = filled_count(postlapse::postlapse_load_samples(bytes, pcm));
     front(pcm, count)
 }
 
@@ -140,15 +140,6 @@ fn ask_sample_reader(mut question: Question, answer: &mut Printer) -> Option<()>
     })
 }
 
-// What is asked of the fragment decoder.
-#[derive(Clone, Copy)]
-struct Fragment<'a> {
-    version: u8,
-    variant: u8,
-    state: State,
-    bytes: &'a [u8],
-}
-
 // The fragment decoder with the state by value. Its answer has no second number.
 fn play(fragment: Fragment, answer: &mut Printer, pcm: &mut [i16]) -> usize {
     let a = postlapse::postlapse_decode_fragment(
@@ -185,16 +176,9 @@ fn play_lent(fragment: Fragment, answer: &mut Printer, pcm: &mut [i16]) -> usize
 
 // Kind 7: version, variant, count, state, a fragment. It is asked by value and with the state lent; where the two answers differ, it
 // has none.
-fn ask_fragment_decoder(mut question: Question, answer: &mut Printer) -> Option<()> {
-    let version = question.byte();
-    let variant = question.byte();
-    let count = question.byte() as usize;
-    let fragment = Fragment {
-        version,
-        variant,
-        state: question.state(),
-        bytes: question.rest,
-    };
+fn ask_fragment_decoder(question: Question, answer: &mut Printer) -> Option<()> {
+    let fragment = question.fragment();
+    let count = fragment.count as usize;
     ask_samples(
         answer,
         count,
@@ -207,11 +191,7 @@ fn ask_fragment_decoder(mut question: Question, answer: &mut Printer) -> Option<
         count,
         |answer: &mut Printer, pcm: &mut [i16]| play_lent(fragment, answer, pcm),
     )?;
-    if answer.text() == lent.text() {
-        Some(())
-    } else {
-        None
-    }
+    (answer.text() == lent.text()).then_some(())
 }
 
 // Kinds 4 and 9: what a WAV file says, and where its sample bytes lie, and these. Where they are not the part of the file that start and
