@@ -11,7 +11,7 @@ use advance::Coder;
 use format::{Coding, Reached, Settings};
 use search::Fragment;
 
-// Internal: the samples after pre-gain.
+// Internal: the samples after pre-gain, at the front of 63 places, since the codec uses no heap.
 fn pre_gained(samples: &[i16], gain: u8) -> [i16; 63]
     requires { length samples.now ≤ 63 }
     ensures { take (length samples.now) result ≡ map (pregained gain) samples.now }
