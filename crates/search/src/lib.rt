@@ -2,6 +2,7 @@
 #![tactic(auto)]
 
 ghost use Rattle.std.specs.Prelude.{◌≡◌, map, ◌+◌, ◌<◌, ◌≤◌, true, nat_abs, ◌-ℤ◌, length, MatchOption};
+ghost use Rattle.std.specs.Int.Signed.{mag};
 ghost use Rattle.format.specs.Gain.{normalised, output_gain};
 ghost use Rattle.format.specs.Encode.{square, best_trial};
 ghost use Rattle.search.specs.Search.{key, Ran, Beaten, Beats, tie, start_at, Tried};
@@ -46,12 +47,13 @@ struct Best {
     marks: [Mark; 63],
 }
 
-// The square of the distance from a pre-gained sample to the sample that a state gives.
-pub fn squared_error(sample: i16, state: Reached, volume: u8) -> u64
-    ensures { (result ≡ square (nat_abs (sample -ℤ output_gain 3 volume state.state.predictor))) × (result ≤ 4294967296) }
+// Internal: the square of the distance from a pre-gained sample to the sample that a predictor gives.
+pub fn squared_error(sample: i16, predictor: i32, volume: u8) -> u64
+    requires { mag predictor ≤ 32767 }
+    ensures { (result ≡ square (nat_abs (sample -ℤ output_gain 3 volume predictor))) × (result ≤ 4294967296) }
 {
     let x = signed::raise(sample as i32);
-    let d = x.abs_diff(gain::raised_output(state.state.predictor, volume)) as u64;
+    let d = x.abs_diff(gain::raised_output(predictor, volume)) as u64;
     d * d
 }
 
@@ -89,7 +91,7 @@ fn whole_sum(coder: &Coder, fragment: Fragment, index: u8, trace: &mut [Mark; 63
             key: key_of(state),
         };
         state = coder.next(state, fragment.targets[i]);
-        sum += squared_error(fragment.xs[i], state, fragment.volume);
+        sum += squared_error(fragment.xs[i], state.state.predictor, fragment.volume);
     }
     sum
 }
@@ -122,7 +124,7 @@ fn winning_sum(
         }
         trace[i] = Mark { sum, key };
         state = coder.next(state, fragment.targets[i]);
-        sum += squared_error(fragment.xs[i], state, fragment.volume);
+        sum += squared_error(fragment.xs[i], state.state.predictor, fragment.volume);
     }
     if sum < limit { Some(sum) } else { None }
 }

@@ -13,11 +13,10 @@ use Rattle.search.proofs.squared_error.Goals as goal
 pub returns : goal.returns
 returns c =
     let a = c.args in
-    let s = a.state in
     let x = rw (sample_read c.ranges.sample) at c.raise-x.ensures.0 in
-    let y = rw (read16 s.state.predictor s.in_range.predictor) at c.raised_output.ensures.0 in
+    let y = rw (read16 a.predictor c.requires) at c.raised_output.ensures.0 in
     let small : c.abs_diff-d.result ≤ 65535 = omega (arith, c.abs_diff-d.ensures, c.raised_output.ensures.1, c.raise-x.ensures.1) in
-    let e : c.abs_diff-d.result ≡ nat_abs (a.sample -ℤ output_gain 3 a.volume s.state.predictor) =
+    let e : c.abs_diff-d.result ≡ nat_abs (a.sample -ℤ output_gain 3 a.volume a.predictor) =
     c.abs_diff-d.ensures
-    ∙ rw (x, y) (sym (raised-apart a.sample (output_gain 3 a.volume s.state.predictor) (omega (arith, c.ranges.sample.sfits)) (output_fits a.volume (omega arith) s.state.predictor s.in_range.predictor))) in
+    ∙ rw (x, y) (sym (raised-apart a.sample (output_gain 3 a.volume a.predictor) (omega (arith, c.ranges.sample.sfits)) (output_fits a.volume (omega arith) a.predictor c.requires))) in
     (rw e, omega (arith, product_le 65535 65535 small small))

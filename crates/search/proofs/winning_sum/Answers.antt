@@ -9,7 +9,7 @@ use mir.Val.{SFits}
 use lib.IntN.{ℤ, pos}
 use lib.ListN.{length, get_or}
 use Rattle.lists.proofs.ByIndex.{map_at}
-use Rattle.signed.proofs.Laws.{back16}
+use Rattle.signed.proofs.Laws.{back16, read16}
 use Rattle.format.specs.Gain.{normalised}
 use Rattle.search.proofs.Summed.{summed_none, summed_more}
 use Rattle.search.proofs.Meeting.{traced_none, traced_more, stopped, met}
@@ -37,5 +37,5 @@ loop-i-preserved c =
     traced_more _ _ _ c.loop-i.invariant (omega (arith, a.few)) c.key_of-key.ensures
     (summed_more _ _ _ _ c.loop-i.invariant.summed h refl y
     (rw (back16 _ f.sfits) at c.next-state.ensures)
-    (rw (back16 _ e.sfits) at c.squared_error-sum.ensures.0)
+    (rw (back16 _ e.sfits, read16 _ c.next-state.result.in_range.predictor) at c.squared_error-sum.ensures.0)
     c.squared_error-sum.ensures.1)
