@@ -35,7 +35,8 @@ fn unpack_groups<const BITS: usize, const BYTES: usize, const CODES: usize>(
     }
 }
 
-// Internal: the sixty-four codes of a payload.
+// Internal: the sixty-four codes of a payload. `digits::unpack_codes` gives the same codes, at any width and a byte at a time; this one
+// has the widths as constants, for whole streams, and of H it unpacks sixteen bytes at a time (docs/SPEED.md).
 fn unpack(variant: Variant, payload: &[u8], codes: &mut [u8; 64])
     requires { length payload.now ≡ payload_bytes variant }
     ensures { codes.new ≡ unpacked (bits variant) 64 payload.now }
@@ -46,7 +47,8 @@ fn unpack(variant: Variant, payload: &[u8], codes: &mut [u8; 64])
     }
 }
 
-// Internal: the depths after each of the first n codes of each lane, and the states after them.
+// Internal: the depths after each of the first n codes of each lane, and the states after them. `fragment_core::decode_codes` gives the
+// same states by arithmetic: it is the plain form, which stays for the decoder of single fragments (docs/SPEED.md).
 fn run<const N: usize>(
     tables: Tables,
     lanes: &mut [Kept; N],
@@ -60,6 +62,7 @@ fn run<const N: usize>(
     requires long { (k : ℕ) → k < N → length (get_or depths.old k []) ≡ 64 }
     ensures { AllRan tables.coding.version tables.coding.variant codes.now lanes.old N n depths.new lanes.new }
 {
+    // In each turn every lane runs one code, so that no lane waits for another; the index serves three arrays.
     for i in 0..n {
         for k in 0..N {
             let next = tables.step(lanes[k], codes[k][i]);
@@ -140,6 +143,8 @@ impl<'a> Player<'a> {
         ensures { (k : ℕ) → k < N → (d : Reached) → Played self.entry.stream.header self.entry.stream.file.now (p + k)
             (count self.entry.stream.header (p / self.entry.stream.header.channels)) (get_or states.entry k d).state (get_or result k d).state (get_or samples.new k []) }
     {
+        // Codes, lanes, depths and samples are arrays of their own, not one array of structs: so each loop is small, and that of the
+        // gain goes over 16-bit numbers alone, several at a time (docs/SPEED.md). The loops over k use their index for all of them.
         let mut codes = [[0u8; 64]; N];
         let mut lanes = [self.tables.keep(Reached::zero()); N];
         for k in 0..N {
