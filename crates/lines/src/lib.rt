@@ -38,6 +38,7 @@ pub fn refusal_line<E: Refusal>(page: &mut Printer, refusal: E)
     page.word(b"\n");
 }
 
+// A variant's name. It is no `Display`: of what a formatter writes, std's `fmt::Write` says too little to prove the whole line.
 #[tactic(auto, unfolding(crate::specs::Lines::variant_name, text::specs::Text::letters))]
 fn name(variant: Variant) -> &'static [u8]
     ensures { result.now ≡ variant_name variant }
