@@ -1,25 +1,39 @@
 // The decoder of whole streams: each fragment in file order, with one state for each channel.
 #![tactic(auto)]
 
-ghost use Rattle.std.specs.Prelude.{◌≡◌, ℕ, ◌+◌, ◌*◌, ◌%◌, ◌<◌, ◌≤◌, List, ℤ, length};
+ghost use Rattle.std.specs.Prelude.{◌≡◌, ℕ, ◌+◌, ◌*◌, ◌%◌, ◌<◌, ◌≤◌, List, ℤ, pos, length};
 ghost use Rattle.format.specs.Layout.{frames};
 ghost use Rattle.format.specs.Answers.{AsDecoded};
-ghost use Rattle.decoder.specs.Loops.{put_at, InStep, Decoding, start_states, loop_out};
+ghost use Rattle.decoder.specs.Loops.{spread, put_at, InStep, Decoding, start_states, loop_out};
 
 use format::{Error, Header, Reached};
 use layout::Stream;
 use player::Player;
 
-// Internal: the samples of the fragment at place `p` go into the output, sample t of channel c to t * channels + c.
+// Internal: samples go to every CHANNELS-th place of the output, sample w to (first + w) * CHANNELS + channel.
+fn spread<const CHANNELS: usize>(out: &mut [i16], samples: &[i16], first: usize, channel: usize)
+    requires { (channel < CHANNELS) × ((first + length samples.now) * CHANNELS ≤ length out.old) }
+    ensures { out.new ≡ spread (pos 0) out.old samples.now first CHANNELS channel (length samples.now) }
+{
+    for (w, sample) in samples.iter().enumerate() {
+        out[(first + w) * CHANNELS + channel] = *sample;
+    }
+}
+
+// Internal: the samples of the fragment at place `p` go into the output, sample t of channel c to t * channels + c. The number of
+// channels is a constant in each loop, so that of one channel eight samples are copied at a time.
 fn put(stream: Stream, p: usize, samples: &[i16; 64], out: &mut [i16])
-    requires { (p < frames stream.header * stream.header.channels) × (stream.header.samples * stream.header.channels ≤ length out.old) }
+    requires { (p < frames stream.header * stream.header.channels) × (stream.header.channels ≤ 2) × (stream.header.samples * stream.header.channels ≤ length out.old) }
     ensures { out.new ≡ put_at stream.entry.header p samples.now out.old }
 {
     let channels = stream.header.channels as usize;
     let first = p / channels * stream.header.coding().frame_samples();
     let channel = p % channels;
-    for (w, sample) in samples[..stream.samples_at(p)].iter().enumerate() {
-        out[(first + w) * channels + channel] = *sample;
+    let n = stream.samples_at(p);
+    if channels == 1 {
+        spread::<1>(out, &samples[..n], first, channel);
+    } else {
+        spread::<2>(out, &samples[..n], first, channel);
     }
 }
 

@@ -1,8 +1,0 @@
--- `decoder::put` meets its contract. Assumes nothing.
-use mathlib.Core.Path.{◌≡◌}
-use lib.IntN.{pos}
-use Rattle.decoder.specs.Loops.{spread}
-use Rattle.decoder.proofs.put.Given as goal
-
-abbrev pub invariant-loop-w : goal.invariant-loop-w
-invariant-loop-w l = l.out ≡ spread (pos 0) l.initial.out l.samples l.first l.channels l.channel l.w
