@@ -2,8 +2,8 @@
 // definitions in specs/, and what is proved of them is listed in proofs/Claims.antt.
 #![tactic(auto)]
 
-ghost use Rattle.std.specs.Prelude.{◌≡◌, ◌≤◌};
-ghost use Rattle.format.specs.Layout.{known_version, anew, bits, payload_bytes, prefix, fragment_size, frame_samples, variant_byte, variant_of};
+ghost use Rattle.std.specs.Prelude.{◌≡◌, ◌≤◌, true, false, length, MatchOption};
+ghost use Rattle.format.specs.Layout.{known_version, anew, bits, payload_bytes, prefix, fragment_size, frame_samples, volume_byte, index_byte, payload, variant_byte, variant_of};
 ghost use Rattle.format.specs.Decode.{zero_state, fragment_start, InRange};
 ghost use Rattle.format.specs.Answers as answers;
 
@@ -81,13 +81,18 @@ impl TryFrom<u8> for Variant {
 }
 
 // Whether the version is one of 1..=3.
+#[tactic(auto, unfolding(crate::specs::Layout::known_version))]
 pub fn known_version(version: u8) -> bool
     ensures { result ≡ known_version version }
 {
-    if version < 1 {
-        return false;
-    }
-    version <= 3
+    matches!(version, 1..=3)
+}
+
+// Whether the fragments of a version start anew, at predictor 0 and a stored index.
+pub fn starts_anew(version: u8) -> bool
+    ensures { result ≡ anew version }
+{
+    3 <= version
 }
 
 // How the fragments of a stream are coded: by its version and its variant. The version stays a number, since the rules compare it and
@@ -109,11 +114,11 @@ impl Coding {
         }
     }
 
-    // Whether each fragment starts anew, at predictor 0 and a stored index.
+    // Whether each fragment starts anew.
     pub fn starts_anew(self) -> bool
         ensures { result ≡ anew self.version }
     {
-        3 <= self.version
+        starts_anew(self.version)
     }
 
     // Samples per channel of a whole frame.
@@ -146,6 +151,37 @@ impl Coding {
     }
 }
 
+// The bytes of a fragment, which has at least the two of the longer prefix.
+#[derive(Clone, Copy)]
+pub struct Coded<'a> {
+    pub bytes: &'a [u8],
+    ghost long: { 2 ≤ length bytes.now },
+}
+
+impl<'a> Coded<'a> {
+    // The volume.
+    pub fn volume(&self) -> u8
+        ensures { result ≡ volume_byte self.now.bytes.now }
+    {
+        self.bytes[0]
+    }
+
+    // The index byte, where fragments start anew; others store none.
+    pub fn index(&self, coding: Coding) -> Option<u8>
+        ensures { MatchOption result (anew coding.version ≡ false)
+            (λ index. (anew coding.version ≡ true) × (index ≡ index_byte self.now.bytes.now)) }
+    {
+        coding.starts_anew().then_some(self.bytes[1])
+    }
+
+    // The packed codes.
+    pub fn payload(&self, coding: Coding) -> &'a [u8]
+        ensures { result.now ≡ payload coding.version self.now.bytes.now }
+    {
+        &self.bytes[coding.prefix_size()..]
+    }
+}
+
 // A channel's decoder state, laid out for C.
 #[repr(C)]
 #[derive(Clone, Copy)]
@@ -158,6 +194,13 @@ impl State {
     pub const MAX_STEP_INDEX: u8 = 88;
 }
 
+// An index of the 89 steps.
+#[derive(Clone, Copy)]
+pub struct StepIndex {
+    pub value: usize,
+    ghost in_table: { value ≤ 88 },
+}
+
 // A state that a decoding reaches: its predictor is of 16 bits, and its index at most 88.
 #[derive(Clone, Copy)]
 pub struct Reached {
@@ -166,6 +209,15 @@ pub struct Reached {
 }
 
 impl Reached {
+    // Its index.
+    pub fn index(self) -> StepIndex
+        ensures { result.value ≡ self.state.index }
+    {
+        StepIndex {
+            value: self.state.index,
+        }
+    }
+
     // The state of a channel before its first fragment.
     pub fn zero() -> Reached
         ensures { result.state ≡ zero_state }

@@ -62,11 +62,11 @@ module _ (h : Header) (p : ℕ) (hc : 0 < h.channels) (l : p < frames h * h.chan
 -- ---- samples
 
 -- sample w of n of one channel: its place is in the list, and not before its number
-pub record Place (first w channels ch len : ℕ) : Type 0 where
+pub record Sample (first w channels ch len : ℕ) : Type 0 where
   pub within : (first + w) * channels + ch < len
   pub above : first + w ≤ (first + w) * channels
 
-pub place_in : (first w n channels ch len : ℕ) → w < n → ch < channels → (first + n) * channels ≤ len → Place first w channels ch len
+pub place_in : (first w n channels ch len : ℕ) → w < n → ch < channels → (first + n) * channels ≤ len → Sample first w channels ch len
 place_in first w n channels ch len hw hc h =
     record { within = omega (arith, mul-le-mul_right channels (less first hw)); above = omega (arith, mul-le-mul_left (first + w) (some hc)) }
   where

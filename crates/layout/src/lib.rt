@@ -1,10 +1,10 @@
 // Where the fragments of a stream lie: frames and their counts, sizes, places.
 #![tactic(auto)]
 
-ghost use Rattle.std.specs.Prelude.{◌≡◌, ◌-◌, ◌*◌, ◌/◌, ◌^◌, ◌≤◌, ◌<◌, length};
+ghost use Rattle.std.specs.Prelude.{◌≡◌, ◌-◌, ◌*◌, ◌/◌, ◌%◌, ◌^◌, ◌≤◌, ◌<◌, length};
 ghost use Rattle.format.specs.Layout.{channels_fit, frames, count, stream_length, fragment_at_place};
 
-use format::Header;
+use format::{Coded, Header};
 
 // Bytes of a stream's header.
 pub const HEADER_SIZE: usize = 16;
@@ -88,27 +88,60 @@ impl<'a> Stream<'a> {
         fragment_count(self.header)
     }
 
-    // Internal: the fragment at place `p` of the file order.
-    pub fn fragment_at(&self, p: usize) -> &'a [u8]
+    // The place `p` of the file order.
+    pub fn place(&self, p: usize) -> Place<'a>
         requires { p < frames self.now.header * self.now.header.channels }
-        ensures { result.now ≡ fragment_at_place self.now.header self.now.file.now p }
+        ensures { (result.p ≡ p) × (result.stream.header ≡ self.now.header) × (result.stream.file.now ≡ self.now.file.now) }
     {
-        let size = self.header.coding().fragment_size();
-        let at = HEADER_SIZE + p * size;
-        let end = at + size;
-        &self.file[at..end]
+        Place { stream: *self, p }
+    }
+}
+
+// The place of a fragment in the file order of a stream: frame by frame, left before right.
+#[derive(Clone, Copy)]
+pub struct Place<'a> {
+    pub stream: Stream<'a>,
+    pub p: usize,
+    ghost within: { p < frames stream.header * stream.header.channels },
+}
+
+impl<'a> Place<'a> {
+    // The frame.
+    pub fn frame(&self) -> usize
+        ensures { result ≡ self.now.p / self.now.stream.header.channels }
+    {
+        self.p / (self.stream.header.channels as usize)
     }
 
-    // Internal: samples of the fragment at place `p`: those of a whole frame before the last frame. A loop over the places divides
-    // nothing at a turn.
-    pub fn samples_at(&self, p: usize) -> usize
-        requires { p < frames self.now.header * self.now.header.channels }
-        ensures { (result ≡ count self.now.header (p / self.now.header.channels)) × (result ≤ 64) }
+    // The channel.
+    pub fn channel(&self) -> usize
+        ensures { result ≡ self.now.p % self.now.stream.header.channels }
     {
-        if p + (self.header.channels as usize) < self.fragments() {
-            self.header.coding().frame_samples()
+        self.p % (self.stream.header.channels as usize)
+    }
+
+    // The fragment.
+    pub fn fragment(&self) -> Coded<'a>
+        ensures { result.bytes.now ≡ fragment_at_place self.now.stream.header self.now.stream.file.now self.now.p }
+    {
+        let size = self.stream.header.coding().fragment_size();
+        let at = HEADER_SIZE + self.p * size;
+        let end = at + size;
+        Coded {
+            bytes: &self.stream.file[at..end],
+        }
+    }
+
+    // The fragment's samples: those of a whole frame before the last frame. A loop over the places divides nothing at a turn.
+    pub fn samples(&self) -> usize
+        ensures { (result ≡ count self.now.stream.header (self.now.p / self.now.stream.header.channels)) × (result ≤ 64) }
+    {
+        let header = self.stream.header;
+        let fragments = self.stream.fragments();
+        if self.p + (header.channels as usize) < fragments {
+            header.coding().frame_samples()
         } else {
-            last_count(self.header)
+            last_count(header)
         }
     }
 }

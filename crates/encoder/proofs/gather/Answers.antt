@@ -10,7 +10,7 @@ use Rattle.std.proofs.lemmas.List.{length-take-le}
 use Rattle.lists.specs.Lists.{tabulate}
 use Rattle.lists.proofs.ByIndex.{fill_next}
 use Rattle.signed.proofs.Laws.{back16}
-use Rattle.layout.proofs.Places.{Place, place_in}
+use Rattle.layout.proofs.Places.{Sample, place_in}
 use Rattle.encoder.proofs.gather.Goals as goal
 use Rattle.encoder.proofs.gather.Goals.{In-loop-w}
 
