@@ -6,7 +6,7 @@ ghost use Rattle.format.specs.Tables as tables;
 ghost use Rattle.format.specs.Layout.{bits};
 ghost use Rattle.format.specs.Step.{step_at, part, h_size, l_size, levels, level_of, size_of, sign_bit, difference, adjustment, stepped};
 
-use format::{Coding, Reached, State, Variant};
+use format::{Coding, Reached, State, StepIndex, Variant};
 
 // The 89 steps.
 pub static STEPS: [i32; 89] = [
@@ -29,7 +29,8 @@ pub static L_PLUS_LEVELS: [i32; 4] = [1, 2, 3, 14];
 
 pub static L_LEVELS: [i32; 4] = [1, 3, 5, 7];
 
-// H has no levels, and zeros stand for them.
+// H has no levels, and zeros stand for them: `level` is public, gives 0 of H and cannot fail, and an Option would only move that 0 to
+// its caller.
 static H_LEVELS: [i32; 4] = [0; 4];
 
 // The table of the steps.
@@ -40,16 +41,16 @@ pub fn steps() -> &'static [i32; 89]
     &STEPS
 }
 
-// Internal: the step at an index.
+// The step at an index.
 #[tactic(auto, using(crate::proofs::Bounds::step_entry, crate::proofs::Bounds::step_low, crate::proofs::Bounds::step_high))]
-pub fn step_size(index: usize) -> u32
-    requires { index ≤ 88 }
-    ensures { (result ≡ step_at index) × (7 ≤ result) × (result ≤ 32767) }
+pub fn step_size(index: StepIndex) -> u32
+    ensures { (result ≡ step_at index.value) × (7 ≤ result) × (result ≤ 32767) }
 {
-    steps()[index] as u32
+    steps()[index.value] as u32
 }
 
-// The levels of a variant.
+// The levels of a variant. What depends on the variant is picked by a match, here and below: the ways of H and of L and L+ share no step,
+// and the variant is known only at run time; a closure or a trait object would be called at each sample and be no plainer.
 #[tactic(auto, unfolding(format::specs::Tables::l_levels, format::specs::Tables::l_plus_levels, format::specs::Tables::legacy_l_plus_levels))]
 fn levels(coding: Coding) -> &'static [i32; 4]
     ensures { result.now ≡ levels coding.version coding.variant }
@@ -81,12 +82,12 @@ pub fn part_of(on: bool, x: u32) -> u32
     if on { x } else { 0 }
 }
 
-// Internal: the size of an H code's difference.
+// The size of an H code's difference, at an index.
 #[tactic(auto, unfolding(format::specs::Step::h_size))]
-fn h_size(step: u32, code: u8) -> u32
-    requires { step ≤ 32767 }
-    ensures { (result ≡ h_size step code) × (result ≤ 65535) }
+fn h_size(index: StepIndex, code: u8) -> u32
+    ensures { (result ≡ h_size (step_at index.value) code) × (result ≤ 65535) }
 {
+    let step = step_size(index);
     step / 8
         + part_of(code / 1 % 2 == 1, step / 4)
         + part_of(code / 2 % 2 == 1, step / 2)
@@ -102,14 +103,13 @@ pub fn l_size(level: u32, step: u32) -> u32
     (level * step + 4) / 8
 }
 
-// Internal: the size of a code's difference.
-fn size_of(coding: Coding, step: u32, code: u8) -> u32
-    requires { step ≤ 32767 }
-    ensures { (result ≡ size_of coding.version coding.variant step code) × (result ≤ 65535) }
+// The size of a code's difference, at an index.
+fn size_of(coding: Coding, index: StepIndex, code: u8) -> u32
+    ensures { (result ≡ size_of coding.version coding.variant (step_at index.value) code) × (result ≤ 65535) }
 {
     match coding.variant {
-        Variant::H => h_size(step, code),
-        Variant::L | Variant::LPlus => l_size(level(coding, code), step),
+        Variant::H => h_size(index, code),
+        Variant::L | Variant::LPlus => l_size(level(coding, code), step_size(index)),
     }
 }
 
@@ -123,13 +123,12 @@ fn sign_bit(variant: Variant) -> u8
     }
 }
 
-// Internal: the difference that a code stands for, at an index.
-pub fn delta(coding: Coding, index: usize, code: u8) -> i32
-    requires { index ≤ 88 }
-    ensures { (result ≡ difference coding.version coding.variant (step_at index) code) × (nat_abs result ≤ 65535) }
+// The difference that a code stands for, at an index.
+pub fn delta(coding: Coding, index: StepIndex, code: u8) -> i32
+    ensures { (result ≡ difference coding.version coding.variant (step_at index.value) code) × (nat_abs result ≤ 65535) }
 {
     let negative = code / sign_bit(coding.variant) % 2 == 1;
-    signed::with_sign(negative, size_of(coding, step_size(index), code))
+    signed::with_sign(negative, size_of(coding, index, code))
 }
 
 // Internal: what a code adds to the index.
@@ -146,16 +145,18 @@ fn adjustment(variant: Variant, code: u8) -> i32
     }
 }
 
-// Internal: the state after a code.
+// Internal: the state after a code. That the code has the variant's bits is asked, here and above: a type of a code would hold its variant
+// too, and each of the 64 bytes that are unpacked at once would have to be made one.
 pub fn update(coding: Coding, state: Reached, code: u8) -> Reached
     requires { code < 2 ^ bits coding.variant }
     ensures { result.state ≡ stepped coding.version coding.variant state.state code }
 {
     let before = state.state;
-    let difference = delta(coding, before.index, code);
+    let difference = delta(coding, state.index(), code);
     let adjustment = adjustment(coding.variant, code);
     let predictor = signed::add_clamp16(before.predictor, difference);
-    let index = signed::add_clamp_to(before.index as u32, adjustment, 88) as usize;
+    let top = State::MAX_STEP_INDEX as u32;
+    let index = signed::add_clamp_to(before.index as u32, adjustment, top) as usize;
     Reached {
         state: State { predictor, index },
     }

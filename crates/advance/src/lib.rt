@@ -10,15 +10,14 @@ ghost use Rattle.format.specs.Encode.{h_code, l_code, code_for};
 ghost use Rattle.format.specs.declared.Variant.TheVariants as variants;
 ghost use Rattle.advance.specs.Advance.{size_entry, Sized, Within, Landed};
 
-use format::{Coding, Reached, Settings, State, Variant};
+use format::{Coding, Reached, Settings, State, StepIndex, Variant};
 
-// Internal: the index moved up, to at most 88, or down by 1, to at least 0.
-fn moved(index: usize, up: bool, by: u32) -> usize
-    requires { (index ≤ 88) × (by ≤ 88) }
-    ensures { result ≡ (if up then min (index + by) 88 else index - 1) }
+// The index moved up, to at most 88, or down by 1, to at least 0.
+fn moved(index: StepIndex, up: bool, by: u32) -> usize
+    ensures { result ≡ (if up then min (index.value + by) 88 else index.value - 1) }
 {
-    let high = (index + by as usize).min(88);
-    let low = index.saturating_sub(1);
+    let high = (index.value + by as usize).min(State::MAX_STEP_INDEX as usize);
+    let low = index.value.saturating_sub(1);
     if up { high } else { low }
 }
 
@@ -39,7 +38,7 @@ fn h_landed(x: u32, p: u32, eighth: u32, last: u32) -> u32
 fn h_next(state: Reached, input: i16) -> Reached
     ensures { result.state ≡ stepped 3 variants.H state.state (h_code state.state input) }
 {
-    let index = state.state.index;
+    let index = state.index();
     let predictor = state.state.predictor;
     let step = adpcm::step_size(index);
     let x = signed::raise(input as i32);
@@ -131,18 +130,17 @@ impl Coder {
         let mut sizes = [0u32; 356];
         for (k, size) in sizes.iter_mut().enumerate() {
             let level = adpcm::level(coding, (k % 4) as u8);
-            let step = adpcm::step_size(k / 4);
+            let step = adpcm::step_size(StepIndex { value: k / 4 });
             *size = adpcm::l_size(level, step);
         }
         Coder { settings, sizes }
     }
 
-    // Internal: the four sizes at an index.
-    fn sizes_at(&self, index: usize) -> Sizes
-        requires { index ≤ 88 }
-        ensures { Sized self.now.settings.variant (step_at index) result }
+    // The four sizes at an index.
+    fn sizes_at(&self, index: StepIndex) -> Sizes
+        ensures { Sized self.now.settings.variant (step_at index.value) result }
     {
-        let row = 4 * index;
+        let row = 4 * index.value;
         Sizes {
             a: self.sizes[row],
             b: self.sizes[row + 1],
@@ -157,7 +155,7 @@ impl Coder {
         requires { bits self.now.settings.variant ≡ 3 }
         ensures { result.state ≡ stepped 3 self.now.settings.variant state.state (l_code self.now.settings.variant state.state input) }
     {
-        let index = state.state.index;
+        let index = state.index();
         let predictor = state.state.predictor;
         let x = signed::raise(input as i32);
         let p = signed::raise(predictor);

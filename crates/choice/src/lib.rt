@@ -7,14 +7,14 @@ ghost use Rattle.format.specs.Encode.{take_off, h_code, choice, l_code, code_for
 
 use format::{Coding, Reached, Variant};
 
-// How far from the input a code's clamped result lands.
+// How far from the input a code's clamped result lands. Variant, state and input stay three parameters, here and in `l_code`: they are
+// what the definition `code_for` takes, and each caller has them apart.
 fn error_of(variant: Variant, state: Reached, input: i16, code: u8) -> u32
     ensures { result ≡ (choice variant state.state input code).error }
 {
     let coding = Coding::written(variant);
-    let before = state.state;
-    let difference = adpcm::delta(coding, before.index, code);
-    let candidate = signed::add_clamp16(before.predictor, difference);
+    let difference = adpcm::delta(coding, state.index(), code);
+    let candidate = signed::add_clamp16(state.state.predictor, difference);
     (input as i32).abs_diff(candidate)
 }
 
@@ -30,7 +30,7 @@ pub fn take_off(threshold: u32, d: u32) -> u32
 fn h_code(state: Reached, input: i16) -> u8
     ensures { (result ≡ h_code state.state input) × (result < 16) }
 {
-    let step = adpcm::step_size(state.state.index);
+    let step = adpcm::step_size(state.index());
     let predictor = state.state.predictor;
     let sample = input as i32;
     let d = sample.abs_diff(predictor);
@@ -59,7 +59,8 @@ fn l_code(variant: Variant, state: Reached, input: i16) -> u8
     best_code
 }
 
-// The code for a normalised sample; the caller then updates its state with it.
+// The code for a normalised sample; the caller then updates its state with it. The two ways share no step, and the variant is known only
+// at run time: hence a match. A closure or a trait object would be called at each sample and be no plainer.
 pub fn encode_code(variant: Variant, state: Reached, input: i16) -> u8
     ensures { (result ≡ code_for variant state.state input) × (result < 2 ^ bits variant) }
 {

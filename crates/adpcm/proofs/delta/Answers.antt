@@ -8,4 +8,4 @@ pub returns : goal.returns
 unfolding difference
 returns c =
     rw (back32 c.with_sign.result c.with_sign.type_inv, c.with_sign.ensures, nat_abs-with_sign _ c.size_of.result)
-    (rw (c.sign_bit.ensures.0, c.size_of.ensures.0, c.step_size.ensures.0) refl, c.size_of.ensures.1)
+    (rw (c.sign_bit.ensures.0, c.size_of.ensures.0) refl, c.size_of.ensures.1)

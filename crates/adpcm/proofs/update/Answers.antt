@@ -26,6 +26,7 @@ returns c =
       read16 s.state.predictor s.in_range.predictor,
       back32 d.result d.type_inv,
       d.ensures.0,
+      c.index.ensures,
       c.add_clamp_to-index.ensures,
       back32 a.result a.type_inv,
       a.ensures.0,

@@ -12,7 +12,7 @@ returns c =
     let u = c.h_landed.ensures in
     let s = c.args.state in
     h_stepped s.state c.args.input s.in_range (omega (arith, c.ranges.input.sfits)) _ _ _ _ _ _ _
-    c.step_size-step.ensures.0
+    (rw c.index-index.ensures at c.step_size-step.ensures.0)
     (rw (sample_read c.ranges.input) at c.raise-x.ensures.0)
     (rw (read16 s.state.predictor s.in_range.predictor) at c.raise-p.ensures.0)
     c.abs_diff-d.ensures
@@ -22,5 +22,5 @@ returns c =
     _ _ _ _ u.0 u.1
     (rw (back32 l.result l.type_inv, l.ensures) (lower_is _ u.2).0)
     (rw (back32 l.result l.type_inv, l.ensures) (lower_is _ u.2).1)
-    c.moved.ensures
+    (rw c.index-index.ensures at c.moved.ensures)
     (omega (arith, c.part_of.ensures.0, c.part_of-2.ensures.0))

@@ -17,6 +17,7 @@ returns c =
       read16 s.state.predictor s.in_range.predictor,
       back32 d.result d.type_inv,
       d.ensures.0,
+      c.index.ensures,
       c.written-coding.ensures,
       sample_read c.ranges.input,
     )

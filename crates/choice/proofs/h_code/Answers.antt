@@ -18,6 +18,7 @@ returns c =
         c.take_off-after_step.ensures,
         c.abs_diff-d.ensures,
         c.step_size-step.ensures.0,
+        c.index.ensures,
       ) (rw (sample_read c.ranges.input, read16 s.state.predictor s.in_range.predictor)),
       omega arith,
     )

@@ -13,7 +13,8 @@ use Rattle.advance.proofs.Coder.l_next.Goals.{After-pick-offset}
 pub within-sizes-requires : goal.within-sizes-requires
 within-sizes-requires c =
     let s = c.args.state in
-    sized_order c.args.self.now.settings.variant (step_at s.state.index) c.requires (step_low s.state.index s.in_range.index) c.sizes_at.ensures
+    sized_order c.args.self.now.settings.variant (step_at s.state.index) c.requires (step_low s.state.index s.in_range.index)
+    (rw c.index-index.ensures at c.sizes_at.ensures)
 
 -- what the three tests choose
 known : (c : After-pick-offset) →
@@ -24,7 +25,7 @@ known : (c : After-pick-offset) →
     c.pick-offset.result
     (ltb (w.result.a + w.result.b) (2 * r))
 known c =
-    let z = c.sizes_at.ensures in
+    let z = rw c.index-index.ensures at c.sizes_at.ensures in
     let w = c.within-sizes.ensures in
     let m = c.room-limit.ensures in
     let s = c.args.state in
@@ -55,4 +56,4 @@ returns c =
     _ _
     (rw (back32 l.result l.type_inv, l.ensures) (lower_is _ c.l_landed.ensures.small).0)
     (rw (back32 l.result l.type_inv, l.ensures) (lower_is _ c.l_landed.ensures.small).1)
-    c.moved.ensures
+    (rw c.index-index.ensures at c.moved.ensures)
