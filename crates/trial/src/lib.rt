@@ -8,7 +8,7 @@ ghost use Rattle.format.specs.Gain.{pregained, normalised};
 ghost use Rattle.format.specs.Encode.{trial_to, best_trial, fragment_bytes, encoded_fragment};
 
 use advance::Coder;
-use format::{Coding, Reached, Settings};
+use format::{Coding, Reached};
 use search::Fragment;
 
 // Internal: the samples after pre-gain, at the front of 63 places, since the codec uses no heap.
@@ -37,10 +37,10 @@ fn normalized(xs: &[i16], volume: u8) -> [i16; 63]
 }
 
 // The codes of the trial from a start index, one for each sample from place 0 on.
-fn codes_from(settings: Settings, fragment: Fragment, index: u8) -> [u8; 63]
-    ensures { take (length fragment.entry.xs.now) result ≡ (trial_to settings fragment.entry.volume fragment.entry.xs.now index (length fragment.entry.xs.now)).codes }
+fn codes_from(fragment: Fragment, index: u8) -> [u8; 63]
+    ensures { take (length fragment.entry.xs.now) result ≡ (trial_to fragment.entry.coder.now.settings fragment.entry.volume fragment.entry.xs.now index (length fragment.entry.xs.now)).codes }
 {
-    let variant = settings.variant;
+    let variant = fragment.coder.settings.variant;
     let coding = Coding::written(variant);
     let mut state = Reached::fragment_start(index);
     let mut codes = [0u8; 63];
@@ -65,14 +65,14 @@ fn put_fragment(out: &mut [u8], volume: u8, index: u8, codes: &[u8], bits: usize
 
 // Internal: the bytes of a fragment that is not silent: of the trials from 0..=88 the one with the least sum, the lowest start at
 // equality.
-fn put_best(coder: &Coder, fragment: Fragment, out: &mut [u8])
-    requires { length out.old ≡ fragment_size 3 coder.now.settings.variant }
-    ensures { out.new ≡ fragment_bytes coder.now.settings.variant fragment.entry.volume (best_trial coder.now.settings fragment.entry.volume fragment.entry.xs.now) }
+fn put_best(fragment: Fragment, out: &mut [u8])
+    requires { length out.old ≡ fragment_size 3 fragment.coder.now.settings.variant }
+    ensures { out.new ≡ fragment_bytes fragment.entry.coder.now.settings.variant fragment.entry.volume (best_trial fragment.entry.coder.now.settings fragment.entry.volume fragment.entry.xs.now) }
 {
     let count = fragment.xs.len();
-    let found = search::best_start(coder, fragment);
-    let codes = codes_from(coder.settings, fragment, found.index);
-    let bits = coder.settings.variant.bits();
+    let found = fragment.best_start();
+    let codes = codes_from(fragment, found.index);
+    let bits = fragment.coder.settings.variant.bits();
     put_fragment(out, fragment.volume, found.index, &codes[..count], bits);
 }
 
@@ -97,9 +97,10 @@ pub fn encode_fragment(coder: &Coder, samples: &[i16], out: &mut [u8])
     let normalized = normalized(xs, volume);
     let targets = &normalized[..count];
     let fragment = Fragment {
+        coder,
         volume,
         xs,
         targets,
     };
-    put_best(coder, fragment, out);
+    put_best(fragment, out);
 }

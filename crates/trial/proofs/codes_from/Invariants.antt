@@ -3,4 +3,4 @@ use Rattle.trial.proofs.Tried.{Tried}
 use Rattle.trial.proofs.codes_from.Given as goal
 
 abbrev pub invariant-loop-i : goal.invariant-loop-i
-invariant-loop-i l = Tried l.fn.settings l.fragment.volume l.fragment.xs.now l.index l.i l.state.state l.codes
+invariant-loop-i l = Tried l.fragment.coder.now.settings l.fragment.volume l.fragment.xs.now l.index l.i l.state.state l.codes

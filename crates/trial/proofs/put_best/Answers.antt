@@ -12,20 +12,20 @@ use Rattle.trial.proofs.put_best.Goals.{After-bits-bits}
 
 coded : (c : After-bits-bits) →
     let a = c.args in
-    take (length a.fragment.xs.now) c.codes_from-codes.result ≡ (best_trial a.coder.now.settings a.fragment.volume a.fragment.xs.now).codes
+    take (length a.fragment.xs.now) c.codes_from-codes.result ≡ (best_trial a.fragment.coder.now.settings a.fragment.volume a.fragment.xs.now).codes
 coded c =
     let a = c.args in
     c.codes_from-codes.ensures
-    ∙ ap (λ (t : Trial). t.codes) (best_from a.coder.now.settings a.fragment.volume a.fragment.xs.now _ c.best_start-found.ensures.index_value)
+    ∙ ap (λ (t : Trial). t.codes) (best_from a.fragment.coder.now.settings a.fragment.volume a.fragment.xs.now _ c.best_start-found.ensures.index_value)
 
 pub put_fragment-requires-clause-by_index : goal.put_fragment-requires-clause-by_index
 put_fragment-requires-clause-by_index c =
     let a = c.args in
     rw (c.bits-bits.ensures, coded (goal.at.put_fragment-requires-clause-by_index c).After-bits-bits)
-    (best_wrote a.coder.now.settings a.fragment.volume a.fragment.xs.now).small
+    (best_wrote a.fragment.coder.now.settings a.fragment.volume a.fragment.xs.now).small
 
 pub returns : goal.returns
 unfolding fragment_bytes
 returns c =
-    let n : length c.args.out.now - 2 ≡ payload_bytes c.args.coder.now.settings.variant = omega (arith, c.requires) in
+    let n : length c.args.out.now - 2 ≡ payload_bytes c.args.fragment.coder.now.settings.variant = omega (arith, c.requires) in
     rw (c.put_fragment.ensures, c.bits-bits.ensures, c.best_start-found.ensures.index_value, coded (goal.at.returns c).After-bits-bits, n)

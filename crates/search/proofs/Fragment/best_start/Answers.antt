@@ -1,7 +1,7 @@
--- `search::best_start` meets its contract. Assumes nothing.
+-- `search::Fragment::best_start` meets its contract. Assumes nothing.
 use native.Mathlib.Omega.{arith}
 use Rattle.search.proofs.Leading.{leading_all}
-use Rattle.search.proofs.best_start.Goals as goal
+use Rattle.search.proofs.Fragment.best_start.Goals as goal
 
 pub returns : goal.returns
 returns c =
