@@ -3,14 +3,14 @@
 use mathlib.Core.Path.{◌≡◌, sym, ◌∙◌}
 use mathlib.Core.Bool.{Bool, true, false, cond}
 use mathlib.Core.List.{List}
-use Prim.Native.Nat.{ℕ, ◌-◌, ◌^◌, ◌≤◌, ◌<◌}
+use Prim.Native.Nat.{ℕ, ◌^◌, ◌≤◌, ◌<◌}
 use native.Mathlib.Omega.{arith}
-use lib.ListN.{length, get_or, take, drop}
+use lib.ListN.{get_or}
 use lib.IntN.{ℤ}
 use Rattle.lists.specs.Lists.{tabulate}
 use Rattle.digits.specs.Digits.{unpacked}
-use Rattle.digits.proofs.Laws.{digits-at, small_digits, tail_all}
-use Rattle.format.specs.Layout.{anew, bits, prefix, payload, frame_samples, volume_byte}
+use Rattle.digits.proofs.Laws.{digits-at, small_digits}
+use Rattle.format.specs.Layout.{anew, bits, payload, frame_samples, volume_byte}
 use Rattle.format.specs.Decode.{start_state, codes_of, after, decoded_fragment}
 use Rattle.format.specs.declared.Variant.{Variant}
 use Rattle.format.specs.declared.State.{State}
@@ -26,11 +26,7 @@ module _ (version : ℕ) (variant : Variant) (fragment : List ℕ) where
   abbrev pub first_codes : List ℕ
   first_codes = unpacked (bits variant) 64 (payload version fragment)
 
-  -- they are the codes of what follows the prefix, and fit the variant's bits
-  pub codes_first : {codes : List ℕ} {b at : ℕ} → codes ≡ unpacked b 64 (take (length fragment - at) (drop at fragment))
-      → b ≡ bits variant → at ≡ prefix version → codes ≡ first_codes
-  codes_first e eb ea = rw (eb, ea, tail_all (prefix version) fragment) at e
-
+  -- they fit the variant's bits
   pub codes_small : {codes : List ℕ} → codes ≡ first_codes → (i : ℕ) → get_or codes i 0 < 2 ^ bits variant
   codes_small e i = rw e (small_digits (bits variant) 64 _ i)
 

@@ -7,17 +7,15 @@ ghost use Rattle.format.specs.Layout.{anew, bits, fragment_size, frame_samples};
 ghost use Rattle.format.specs.Decode.{start_state, after, decoded_fragment};
 ghost use Rattle.fragment_core.specs.Run.{sample_at};
 
-use format::{Coding, Reached};
+use format::{Coded, Coding, Reached};
 
-// Internal: the state before a fragment's first code.
-pub fn state_before(coding: Coding, state: Reached, fragment: &[u8]) -> Reached
-    requires { 2 ≤ length fragment.now }
-    ensures { result.state ≡ start_state coding.version state.state fragment.now }
+// The state before a fragment's first code.
+pub fn state_before(coding: Coding, state: Reached, fragment: &Coded) -> Reached
+    ensures { result.state ≡ start_state coding.version state.state fragment.now.bytes.now }
 {
-    if coding.starts_anew() {
-        Reached::fragment_start(fragment[1])
-    } else {
-        state
+    match fragment.index(coding) {
+        Some(index) => Reached::fragment_start(index),
+        None => state,
     }
 }
 
@@ -49,13 +47,13 @@ fn decode_codes(
 }
 
 // Internal: as many samples of a fragment as `out` has places, and the state after them.
-pub fn decode_fragment(coding: Coding, state: Reached, fragment: &[u8], out: &mut [i16]) -> Reached
-    requires { (length fragment.now ≡ fragment_size coding.version coding.variant) × (length out.old ≤ frame_samples coding.version) }
-    ensures { (result.state ≡ (decoded_fragment coding.version coding.variant state.state fragment.now (length out.old)).state)
-        × (out.new ≡ (decoded_fragment coding.version coding.variant state.state fragment.now (length out.old)).samples) }
+pub fn decode_fragment(coding: Coding, state: Reached, fragment: &Coded, out: &mut [i16]) -> Reached
+    requires { (length fragment.now.bytes.now ≡ fragment_size coding.version coding.variant) × (length out.old ≤ frame_samples coding.version) }
+    ensures { (result.state ≡ (decoded_fragment coding.version coding.variant state.state fragment.now.bytes.now (length out.old)).state)
+        × (out.new ≡ (decoded_fragment coding.version coding.variant state.state fragment.now.bytes.now (length out.old)).samples) }
 {
     let start = state_before(coding, state, fragment);
-    let codes = digits::unpack_codes(&fragment[coding.prefix_size()..], coding.variant.bits());
-    let end = decode_codes(coding, start, &codes, fragment[0], out);
+    let codes = digits::unpack_codes(fragment.payload(coding), coding.variant.bits());
+    let end = decode_codes(coding, start, &codes, fragment.volume(), out);
     state_after(coding, state, end)
 }
