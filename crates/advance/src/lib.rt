@@ -2,8 +2,9 @@
 // comparisons instead of eight candidates.
 #![tactic(auto)]
 
-ghost use Rattle.std.specs.Prelude.{◌≡◌, ◌+◌, ◌-◌, ◌<◌, ◌≤◌, min, if◌then◌else◌};
+ghost use Rattle.std.specs.Prelude.{◌≡◌, ◌+◌, ◌-◌, ◌*◌, ◌<◌, ◌≤◌, min, if◌then◌else◌};
 ghost use Rattle.lists.specs.Lists.{tabulate};
+ghost use Rattle.signed.specs.Signed.{raised};
 ghost use Rattle.format.specs.Layout.{bits};
 ghost use Rattle.format.specs.Step.{step_at, stepped};
 ghost use Rattle.format.specs.Encode.{h_code, l_code, code_for};
@@ -21,16 +22,76 @@ fn moved(index: StepIndex, up: bool, by: u32) -> usize
     if up { high } else { low }
 }
 
-// Internal: from a raised sample x, where the raised predictor p lands by an H code, which leaves `last` of their distance:
-// short of x by that, and on by an eighth of the step.
-fn h_landed(x: u32, p: u32, eighth: u32, last: u32) -> u32
-    requires { (x ≤ 65535) × (p ≤ 65535) × (eighth ≤ 4095) × (last ≤ x - p + (p - x)) }
-    ensures { (x < p → result ≡ x + last - eighth) × (p ≤ x → result ≡ min (x + eighth - last) 65535) × (result ≤ 65535) }
-{
-    if x < p {
-        (x + last).saturating_sub(eighth)
-    } else {
-        (x + eighth - last).min(65535)
+// A raised sample x, and the raised predictor p that goes toward it.
+#[derive(Clone, Copy)]
+struct Pair {
+    x: u32,
+    p: u32,
+    ghost raised: { (x ≤ 65535) × (p ≤ 65535) },
+}
+
+impl Pair {
+    // A normalised sample and the predictor of a state.
+    fn of(state: Reached, input: i16) -> Pair
+        ensures { (result.x ≡ raised input) × (result.p ≡ raised state.state.predictor) }
+    {
+        Pair {
+            x: signed::raise(input as i32),
+            p: signed::raise(state.state.predictor),
+        }
+    }
+
+    // How far they are apart.
+    fn distance(self) -> u32
+        ensures { result ≡ self.x - self.p + (self.p - self.x) }
+    {
+        self.x.abs_diff(self.p)
+    }
+
+    // Internal: where the predictor lands by an H code, which leaves `last` of the distance: short of x by that, and on by an eighth of
+    // the step.
+    fn h_landed(self, eighth: u32, last: u32) -> u32
+        requires { (eighth ≤ 4095) × (last ≤ self.x - self.p + (self.p - self.x)) }
+        ensures { (self.x < self.p → result ≡ self.x + last - eighth) × (self.p ≤ self.x → result ≡ min (self.x + eighth - last) 65535) × (result ≤ 65535) }
+    {
+        if self.x < self.p {
+            (self.x + last).saturating_sub(eighth)
+        } else {
+            (self.x + eighth - last).min(65535)
+        }
+    }
+
+    // How far the predictor can go toward x.
+    fn room(self) -> u32
+        ensures { (self.x < self.p → result ≡ self.p) × (self.p ≤ self.x → result ≡ 65535 - self.p) × (result ≤ 65535) }
+    {
+        if self.x < self.p {
+            self.p
+        } else {
+            65535 - self.p
+        }
+    }
+
+    // Internal: where the predictor lands by an L or L+ code, `offset` being the nearest toward x: there, unless the limit behind it is
+    // nearer, or, where the code toward x is the higher, as near.
+    fn l_landed(self, offset: u32) -> u32
+        requires { (self.x < self.p → offset ≤ self.p) × (self.p ≤ self.x → offset ≤ 65535 - self.p) }
+        ensures { Landed self.x self.p (2 * (self.x - self.p + (self.p - self.x))) offset result }
+    {
+        let twice = 2 * self.distance();
+        if self.x < self.p {
+            if twice + (65535 - self.p) <= offset {
+                65535
+            } else {
+                self.p - offset
+            }
+        } else {
+            if twice + self.p < offset {
+                0
+            } else {
+                self.p + offset
+            }
+        }
     }
 }
 
@@ -39,18 +100,16 @@ fn h_next(state: Reached, input: i16) -> Reached
     ensures { result.state ≡ stepped 3 variants.H state.state (h_code state.state input) }
 {
     let index = state.index();
-    let predictor = state.state.predictor;
     let step = adpcm::step_size(index);
-    let x = signed::raise(input as i32);
-    let p = signed::raise(predictor);
-    let d = x.abs_diff(p);
+    let pair = Pair::of(state, input);
+    let d = pair.distance();
     let half = choice::take_off(step, d);
     let quarter = choice::take_off(step / 2, half);
     let last = choice::take_off(step / 4, quarter);
     let by = 2 + adpcm::part_of(step / 2 <= half, 4) + adpcm::part_of(step / 4 <= quarter, 2);
     Reached {
         state: State {
-            predictor: signed::lower(h_landed(x, p, step / 8, last)),
+            predictor: signed::lower(pair.h_landed(step / 8, last)),
             index: moved(index, step <= d, by),
         },
     }
@@ -78,38 +137,6 @@ fn within(sizes: Sizes, limit: u32) -> Sizes
         b: sizes.b.min(limit),
         c: sizes.c.min(limit),
         d: limit,
-    }
-}
-
-// a where `on`, else b.
-fn pick(on: bool, a: u32, b: u32) -> u32
-    ensures { result ≡ (if on then a else b) }
-{
-    if on { a } else { b }
-}
-
-// Internal: how far a raised predictor p can go toward a raised sample x.
-fn room(x: u32, p: u32) -> u32
-    requires { p ≤ 65535 }
-    ensures { (x < p → result ≡ p) × (p ≤ x → result ≡ 65535 - p) × (result ≤ 65535) }
-{
-    if x < p { p } else { 65535 - p }
-}
-
-// Internal: where the raised predictor p lands by an L or L+ code, `offset` being the nearest toward the raised sample x: there,
-// unless the limit behind it is nearer, or, where the code toward x is the higher, as near.
-fn l_landed(x: u32, p: u32, twice: u32, offset: u32) -> u32
-    requires { (p ≤ 65535) × (twice ≤ 131070) × (x < p → offset ≤ p) × (p ≤ x → offset ≤ 65535 - p) }
-    ensures { Landed x p twice offset result }
-{
-    if x < p {
-        if twice + (65535 - p) <= offset {
-            65535
-        } else {
-            p - offset
-        }
-    } else {
-        if twice + p < offset { 0 } else { p + offset }
     }
 }
 
@@ -156,12 +183,9 @@ impl Coder {
         ensures { result.state ≡ stepped 3 self.now.settings.variant state.state (l_code self.now.settings.variant state.state input) }
     {
         let index = state.index();
-        let predictor = state.state.predictor;
-        let x = signed::raise(input as i32);
-        let p = signed::raise(predictor);
-        let twice = 2 * x.abs_diff(p);
-        let limit = room(x, p);
-        let sizes = within(self.sizes_at(index), limit);
+        let pair = Pair::of(state, input);
+        let twice = 2 * pair.distance();
+        let sizes = within(self.sizes_at(index), pair.room());
         let a = sizes.a;
         let b = sizes.b;
         let c = sizes.c;
@@ -169,14 +193,18 @@ impl Coder {
         let m = adpcm::part_of(a + b < twice, 1)
             + adpcm::part_of(b + c < twice, 1)
             + adpcm::part_of(c + d < twice, 1);
-        let offset = pick(
-            c + d < twice,
-            d,
-            pick(b + c < twice, c, pick(a + b < twice, b, a)),
-        );
+        let offset = if c + d < twice {
+            d
+        } else if b + c < twice {
+            c
+        } else if a + b < twice {
+            b
+        } else {
+            a
+        };
         Reached {
             state: State {
-                predictor: signed::lower(l_landed(x, p, twice, offset)),
+                predictor: signed::lower(pair.l_landed(offset)),
                 index: moved(index, a + b < twice, 2 * m),
             },
         }

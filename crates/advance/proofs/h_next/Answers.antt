@@ -1,8 +1,7 @@
 -- `advance::h_next` meets its contract: what is left of the distance says where the predictor lands. Assumes nothing.
-use Rattle.std.proofs.Common.{arith}
-use Rattle.signed.proofs.Laws.{back32, read16}
+use Rattle.std.proofs.Common.{arith, to_z-of_z}
+use Rattle.signed.proofs.Laws.{back32}
 use Rattle.signed.proofs.Raised.{lower_is}
-use Rattle.adpcm.proofs.Bounds.{sample_read}
 use Rattle.advance.proofs.Cascade.{h_stepped}
 use Rattle.advance.proofs.h_next.Goals as goal
 
@@ -13,9 +12,9 @@ returns c =
     let s = c.args.state in
     h_stepped s.state c.args.input s.in_range (omega (arith, c.ranges.input.sfits)) _ _ _ _ _ _ _
     (rw c.index-index.ensures at c.step_size-step.ensures.0)
-    (rw (sample_read c.ranges.input) at c.raise-x.ensures.0)
-    (rw (read16 s.state.predictor s.in_range.predictor) at c.raise-p.ensures.0)
-    c.abs_diff-d.ensures
+    (rw (to_z-of_z c.ranges.input) at c.of-pair.ensures.0)
+    c.of-pair.ensures.1
+    c.distance-d.ensures
     c.take_off-half.ensures
     c.take_off-quarter.ensures
     c.take_off-last.ensures
