@@ -1,11 +1,11 @@
 -- The H step on raised numbers: what the code's bits say, what is taken off, and where the predictor lands. Assumes nothing.
-use Rattle.std.proofs.Common.{◌≡◌, ℕ, suc, ◌+◌, ◌-◌, ◌/◌, ◌<◌, ◌≤◌, min, Bool, true, false, cond, ltb, leb, get_or, ℤ, pos, negsuc, ◌+ℤ◌, refl, ◌∙◌, arith, ltb→lt, le-ltb, lt-ltb, le-leb}
+use Rattle.std.proofs.Common.{◌≡◌, ℕ, ◌+◌, ◌-◌, ◌/◌, ◌<◌, ◌≤◌, min, Bool, true, false, cond, ltb, leb, get_or, ℤ, pos, negsuc, ◌+ℤ◌, refl, ◌∙◌, arith, le-ltb, lt-ltb}
 use native.Mathlib.Decide.{dec_lt}
-use lib.IntN.{sub_ℕ}
 use lib.Signed.{mag}
-use borrow.Author.Tests.{lt-leb}
+use Rattle.std.proofs.lemmas.Int.{ints, clamps}
+use Rattle.std.proofs.lemmas.Bool.Decides.{nat_tests}
 use Rattle.signed.specs.Signed.{with_sign, clamp16, clamp_to, raised}
-use Rattle.signed.proofs.Laws.{cond_ind, clamp_fits}
+use Rattle.signed.proofs.Laws.{clamp_to_is, clamp_fits}
 use Rattle.signed.proofs.Raised.{raised-same, raised_less, raised-apart, raised_down, raised_up}
 use Rattle.format.specs.Tables.{h_index_adjust}
 use Rattle.format.specs.Step.{step_at, bit_set, part, h_size, difference, unclamped_predictor, unclamped_index, stepped}
@@ -48,23 +48,13 @@ bits true true true true = record { one = refl; two = refl; four = refl; eight =
 -- ---- what is taken off
 
 taken : (t d : ℕ) → part (leb t d) t + take_off t d ≡ d
-taken t d = go (dec_lt d t)
-  where
-    go : Dec (d < t) → part (leb t d) t + take_off t d ≡ d
-    go (yes l) = rw (lt-leb t d l) (omega arith)
-    go (no l) = let h : t ≤ d = omega arith in rw (le-leb t d h) (omega arith)
+taken t d = grind (arith, nat_tests)
 
 -- ---- the index
 
-pub index_down : (index : ℕ) → index ≤ 88 → clamp_to 88 (sub_ℕ index 1) ≡ index - 1
-unfolding clamp_to
-index_down index h =
-    cond_ind (ltb index 1) (negsuc (1 - suc index)) (pos (index - 1)) (λ z. clamp_to 88 z ≡ index - 1) (λ t. omega (arith, ltb→lt index 1 t)) (λ t. omega arith)
-
 pub index_moved : (up : Bool) (index by : ℕ) → index ≤ 88 → clamp_to 88 (pos index +ℤ cond up (pos by) (negsuc 0)) ≡ cond up (min (index + by) 88) (index - 1)
-unfolding clamp_to
-index_moved true index by h = refl
-index_moved false index by h = index_down index h
+index_moved true index by h = omega (arith, ints, clamps, clamp_to_is 88 (pos index +ℤ pos by))
+index_moved false index by h = omega (arith, ints, clamps, clamp_to_is 88 (pos index +ℤ negsuc 0))
 
 -- ---- the step
 

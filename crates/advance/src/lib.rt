@@ -63,7 +63,7 @@ impl Pair {
 
     // How far the predictor can go toward x.
     fn room(self) -> u32
-        ensures { (self.x < self.p → result ≡ self.p) × (self.p ≤ self.x → result ≡ 65535 - self.p) × (result ≤ 65535) }
+        ensures { (self.x < self.p → result ≡ self.p) × (self.p ≤ self.x → result ≡ 65535 - self.p) }
     {
         if self.x < self.p {
             self.p

@@ -1,5 +1,5 @@
-// Signed numbers by sign and magnitude, the clamps, and the two bytes of a 16-bit sample: the only place with signed
-// operators.
+// Signed numbers by sign and magnitude, the clamps, and the two bytes of a 16-bit sample. Of the codec's crates this alone adds, subtracts
+// and negates signed numbers; the others compare and cast them, and take magnitudes and distances.
 #![tactic(auto)]
 
 ghost use Rattle.std.specs.Prelude.{◌≡◌, ◌+◌, ◌-◌, ◌*◌, ◌<◌, ◌≤◌, ◌^◌, pos, nat_abs, ◌+ℤ◌, ◌-ℤ◌};
@@ -76,7 +76,8 @@ pub fn lower(u: u32) -> i32
     u as i32 - 32768
 }
 
-// Internal: how far a 16-bit number lies below 32767.
+// Internal: how far a 16-bit number lies below 32767. This and `at_depth` count down from 32767, `raise` and `lower` up from -32768, so
+// that no constant turns one pair into the other.
 #[tactic(auto, using(crate::proofs::Laws::depth_is, crate::proofs::Laws::depth_le))]
 pub fn depth(x: i32) -> u32
     requires { mag x ≤ 32767 }

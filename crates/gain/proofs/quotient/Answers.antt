@@ -1,12 +1,12 @@
 -- `gain::quotient` meets its contract. Assumes nothing.
 use Rattle.std.proofs.Common.{◌*◌, ◌≤◌, arith}
-use Rattle.signed.proofs.Laws.{product_le}
+use Rattle.std.proofs.lemmas.Nat.{mul-le}
 use Rattle.gain.proofs.Halves.{times, low_half, rounds_up, rounds_down}
 use Rattle.gain.proofs.quotient.Goals as goal
 use Rattle.gain.proofs.quotient.Goals.{Start}
 
 product : (c : Start) → c.args.m * c.args.gain ≤ 8355840
-product c = product_le 32768 255 c.requires.0 (omega arith)
+product c = mul-le c.args.m c.args.gain 32768 255 c.requires.0 (omega arith)
 
 pub overflow_mul-high-2 : goal.overflow_mul-high-2
 overflow_mul-high-2 c = omega (arith, product (goal.at.overflow_mul-high-2 c).Start, times c.args.m c.args.gain)
