@@ -7,7 +7,7 @@ ghost use Rattle.format.specs.Decode.{fragment_fits, state_fits};
 ghost use Rattle.format.specs.Answers.{AsCalled};
 ghost use Rattle.fragment.specs.Tried.{Filled, Refused};
 
-use format::{Coding, Error, Reached, State, Variant};
+use format::{Coded, Coding, Error, Reached, State, Variant};
 
 // Whether the fragment has its size, and an output of `n` samples is not too long for it.
 fn fragment_fits(coding: Coding, fragment: &[u8], n: usize) -> bool
@@ -43,7 +43,7 @@ fn decode(coding: Coding, state: State, fragment: &[u8], out: &mut [i16]) -> Res
         return Err(Error::InvalidFragment);
     }
     let start = usable(coding, state)?;
-    let end = fragment_core::decode_fragment(coding, start, fragment, out);
+    let end = fragment_core::decode_fragment(coding, start, &Coded { bytes: fragment }, out);
     // Not by `fragment_core::state_after`: that one takes a `Reached`, and where fragments start anew the given state may be none.
     if coding.starts_anew() {
         Ok(state)

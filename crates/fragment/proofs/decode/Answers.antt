@@ -1,9 +1,11 @@
 -- `fragment::decode` meets its contract. Assumes nothing.
+use native.Mathlib.Omega.{arith}
 use mathlib.Core.Path.{refl, sym, ◌∙◌}
 use Rattle.std.proofs.lemmas.Result.{err_from_is_err_and}
 use Rattle.format.specs.Answers.{number_of, values_of}
 use Rattle.format.specs.Decode.{fragment_call}
 use Rattle.format.proofs.Range.{fits_size, returned_anew}
+use Rattle.format.proofs.Sizes.{payload_few}
 use Rattle.outcome.proofs.Laws.{checks}
 use Rattle.fragment_core.proofs.Fragments.{samples_anew}
 use Rattle.fragment.proofs.decode.Goals as goal
@@ -22,6 +24,11 @@ returns-in_err-start c =
     let p = err_from_is_err_and c.from_residual.result c.from_residual.ensures.1 in
     let fits = c.in_err-start.ensures.1 in
     rw (p.1, p.2, c.in_err-start.ensures.0) (record { refuses = search checks depth 12; output_left = refl })
+
+pub invariant_of-decode_fragment : goal.invariant_of-decode_fragment
+invariant_of-decode_fragment c =
+    let a = c.args in
+    record { long = omega (arith, (fits_size _ _ _ _ (sym c.if-not-fragment_fits.ensures)).0, payload_few a.coding.variant) }
 
 pub decode_fragment-end-requires : goal.decode_fragment-end-requires
 decode_fragment-end-requires c = fits_size _ _ _ _ (sym c.if-not-fragment_fits.ensures)
