@@ -38,7 +38,8 @@ impl Tables {
         }
     }
 
-    // The tables of a coding; L+ has differences of its own in version 1.
+    // The tables of a coding; L+ has differences of its own in version 1. A match: the variant is a value that the stream names, and each
+    // has its own tables, of H of another length.
     pub fn of(coding: Coding) -> Tables
         ensures { result.coding ≡ coding }
     {

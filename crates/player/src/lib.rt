@@ -5,7 +5,7 @@
 ghost use Rattle.std.specs.Prelude.{◌≡◌, ℕ, ◌+◌, ◌*◌, ◌/◌, ◌<◌, ◌≤◌, ◌^◌, pos, ◌-ℤ◌, [], length, get_or};
 ghost use Rattle.lists.specs.Lists.{tabulate};
 ghost use Rattle.digits.specs.Digits.{unpacked};
-ghost use Rattle.format.specs.Layout.{bits, payload_bytes, frames, count, fragment_at_place};
+ghost use Rattle.format.specs.Layout.{bits, payload_bytes, fragment_size, frames, count};
 ghost use Rattle.format.specs.Gain.{output_gain};
 ghost use Rattle.format.specs.declared.Reached.{Reached};
 ghost use Rattle.lookup.specs.Lookup.{state_of};
@@ -13,7 +13,7 @@ ghost use Rattle.lookup.specs.declared.Kept.{Kept};
 ghost use Rattle.player.specs.Groups.{Groups};
 ghost use Rattle.player.specs.Play.{AllRan, Started, Finished, Played};
 
-use format::{Coding, Reached, Variant};
+use format::{Coded, Coding, Reached, Variant};
 use layout::Stream;
 use lookup::{Kept, Tables};
 
@@ -41,6 +41,7 @@ fn unpack(variant: Variant, payload: &[u8], codes: &mut [u8; 64])
     requires { length payload.now ≡ payload_bytes variant }
     ensures { codes.new ≡ unpacked (bits variant) 64 payload.now }
 {
+    // A match, since the widths are constants, and the variant a value that the stream names.
     match variant {
         Variant::H => unpack_groups::<4, 1, 2>(payload, codes),
         Variant::L | Variant::LPlus => unpack_groups::<3, 3, 8>(payload, codes),
@@ -81,6 +82,31 @@ fn apply_gain(coding: Coding, depths: &[u16; 64], volume: u8, samples: &mut [i16
     }
 }
 
+// Internal: a fragment is unpacked, and its lane stands at the state before its first code.
+fn start(tables: Tables, fragment: &Coded, state: Reached, codes: &mut [u8; 64]) -> Kept
+    requires { length fragment.now.bytes.now ≡ fragment_size tables.coding.version tables.coding.variant }
+    ensures { Started tables.coding.version tables.coding.variant fragment.now.bytes.now state.state codes.new result }
+{
+    let coding = tables.coding;
+    unpack(coding.variant, fragment.payload(coding), codes);
+    tables.keep(fragment_core::state_before(coding, state, fragment))
+}
+
+// The samples of a fragment from its depths, and the state after it.
+fn finish(
+    coding: Coding,
+    fragment: &Coded,
+    state: Reached,
+    lane: Kept,
+    depths: &[u16; 64],
+    samples: &mut [i16; 64],
+) -> Reached
+    ensures { Finished coding.version fragment.now.bytes.now state.state (state_of lane.variant lane.point) depths.now samples.new result.state }
+{
+    apply_gain(coding, depths, fragment.volume(), samples);
+    fragment_core::state_after(coding, state, lane.state())
+}
+
 // A stream with the tables of its coding.
 #[derive(Clone, Copy)]
 pub struct Player<'a> {
@@ -100,37 +126,6 @@ impl<'a> Player<'a> {
         }
     }
 
-    // Internal: the fragment at place `p` is unpacked, and its lane stands at the state before its first code.
-    fn start(&self, p: usize, state: Reached, codes: &mut [u8; 64]) -> Kept
-        requires { p < frames self.now.stream.header * self.now.stream.header.channels }
-        ensures { Started self.now.tables.coding.version self.now.tables.coding.variant (fragment_at_place self.now.stream.header self.now.stream.file.now p) state.state codes.new result }
-    {
-        let coding = self.tables.coding;
-        let fragment = self.stream.fragment_at(p);
-        unpack(coding.variant, &fragment[coding.prefix_size()..], codes);
-        self.tables
-            .keep(fragment_core::state_before(coding, state, fragment))
-    }
-
-    // Internal: the samples of the fragment at place `p` from its depths, and the state after it.
-    fn finish(
-        &self,
-        p: usize,
-        state: Reached,
-        lane: Kept,
-        depths: &[u16; 64],
-        samples: &mut [i16; 64],
-    ) -> Reached
-        requires { p < frames self.now.stream.header * self.now.stream.header.channels }
-        ensures { Finished self.now.tables.coding.version (fragment_at_place self.now.stream.header self.now.stream.file.now p) state.state
-            (state_of lane.variant lane.point) depths.now samples.new result.state }
-    {
-        let coding = self.tables.coding;
-        let fragment = self.stream.fragment_at(p);
-        apply_gain(coding, depths, fragment[0], samples);
-        fragment_core::state_after(coding, state, lane.state())
-    }
-
     // Internal: the fragments from place `p` on, one for each state: as many samples of each as the first has, at the front, and the
     // states after them.
     pub fn play<const N: usize>(
@@ -148,14 +143,27 @@ impl<'a> Player<'a> {
         let mut codes = [[0u8; 64]; N];
         let mut lanes = [self.tables.keep(Reached::zero()); N];
         for k in 0..N {
-            lanes[k] = self.start(p + k, states[k], &mut codes[k]);
+            lanes[k] = start(
+                self.tables,
+                &self.stream.place(p + k).fragment(),
+                states[k],
+                &mut codes[k],
+            );
         }
-        let n = self.stream.samples_at(p);
+        let n = self.stream.place(p).samples();
         let mut depths = [[0u16; 64]; N];
         run(self.tables, &mut lanes, &codes, n, &mut depths);
         let mut after = states;
         for k in 0..N {
-            after[k] = self.finish(p + k, states[k], lanes[k], &depths[k], &mut samples[k]);
+            let fragment = self.stream.place(p + k).fragment();
+            after[k] = finish(
+                self.tables.coding,
+                &fragment,
+                states[k],
+                lanes[k],
+                &depths[k],
+                &mut samples[k],
+            );
         }
         after
     }
