@@ -7,33 +7,34 @@ ghost use Rattle.format.specs.Answers.{AsDecoded};
 ghost use Rattle.decoder.specs.Loops.{spread, put_at, InStep, Decoding, start_states, loop_out};
 
 use format::{Error, Header, Reached};
-use layout::Stream;
+use layout::{Place, Stream};
 use player::Player;
 
-// Internal: samples go to every CHANNELS-th place of the output, sample w to (first + w) * CHANNELS + channel.
-fn spread<const CHANNELS: usize>(out: &mut [i16], samples: &[i16], first: usize, channel: usize)
-    requires { (channel < CHANNELS) × ((first + length samples.now) * CHANNELS ≤ length out.old) }
-    ensures { out.new ≡ spread (pos 0) out.old samples.now first CHANNELS channel (length samples.now) }
+// Internal: samples go to every `channels`-th place of the output, sample w to (first + w) * channels + channel.
+fn spread(out: &mut [i16], samples: &[i16], first: usize, channel: usize, channels: usize)
+    requires { (channel < channels) × ((first + length samples.now) * channels ≤ length out.old) }
+    ensures { out.new ≡ spread (pos 0) out.old samples.now first channels channel (length samples.now) }
 {
     for (w, sample) in samples.iter().enumerate() {
-        out[(first + w) * CHANNELS + channel] = *sample;
+        out[(first + w) * channels + channel] = *sample;
     }
 }
 
-// Internal: the samples of the fragment at place `p` go into the output, sample t of channel c to t * channels + c. The number of
-// channels is a constant in each loop, so that of one channel eight samples are copied at a time.
-fn put(stream: Stream, p: usize, samples: &[i16; 64], out: &mut [i16])
-    requires { (p < frames stream.header * stream.header.channels) × (stream.header.channels ≤ 2) × (stream.header.samples * stream.header.channels ≤ length out.old) }
-    ensures { out.new ≡ put_at stream.entry.header p samples.now out.old }
+// Internal: the samples of the fragment at a place go into the output, sample t of channel c to t * channels + c. The room of `out`
+// stands in three contracts: a type that lends `out` with it would have to say in each that the header stays.
+fn put(place: Place, samples: &[i16; 64], out: &mut [i16])
+    requires { place.stream.header.samples * place.stream.header.channels ≤ length out.old }
+    ensures { out.new ≡ put_at place.entry.stream.header place.entry.p samples.now out.old }
 {
-    let channels = stream.header.channels as usize;
-    let first = p / channels * stream.header.coding().frame_samples();
-    let channel = p % channels;
-    let n = stream.samples_at(p);
-    if channels == 1 {
-        spread::<1>(out, &samples[..n], first, channel);
+    let header = place.stream.header;
+    let first = place.frame() * header.coding().frame_samples();
+    let samples = &samples[..place.samples()];
+    let channel = place.channel();
+    // One channel has a loop of its own, where it copies eight samples at a time.
+    if header.channels == 1 {
+        spread(out, samples, first, channel, 1);
     } else {
-        spread::<2>(out, &samples[..n], first, channel);
+        spread(out, samples, first, channel, header.channels as usize);
     }
 }
 
@@ -57,9 +58,9 @@ fn decode_lanes<const N: usize>(
     }
     let mut samples = [[0i16; 64]; N];
     let after = player.play(p, before, &mut samples);
-    for k in 0..N {
-        put(player.stream, p + k, &samples[k], out);
-        states[(p + k) % channels] = after[k];
+    for (k, state) in after.iter().enumerate() {
+        put(player.stream.place(p + k), &samples[k], out);
+        states[(p + k) % channels] = *state;
     }
 }
 

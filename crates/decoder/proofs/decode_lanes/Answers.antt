@@ -17,6 +17,6 @@ pub loop-k-2-preserved : goal.loop-k-2-preserved
 loop-k-2-preserved g c = λ o t.
     let k = c.loop-k-2.k in
     let l = c.loop-k-2-test.true in
-    let z = c.index-after-k.result in
-    rw c.put.ensures
+    let z = c.state-item-in-loop-k-2.result in
+    rw (c.put.ensures, c.place.ensures.0, c.place.ensures.1)
     (lane_more c.requires.2 c.args.player.stream.channels c.requires.3 t (c.loop-k-2.invariant o t) l _ _ z _ (c.loop-k.invariant.each k (omega arith) z) (c.play-after.ensures k l z))
