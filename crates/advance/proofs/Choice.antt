@@ -1,11 +1,11 @@
 -- The L and L+ step on raised numbers: the eight candidates, the code that is chosen, and the state after it. Assumes nothing.
-use Rattle.std.proofs.Common.{◌≡◌, ℕ, zero, suc, ◌+◌, ◌-◌, ◌*◌, ◌/◌, ◌%◌, ◌<◌, ◌≤◌, min, Bool, true, false, cond, ltb, ℤ, sym, refl, ap, ◌∙◌, arith}
+use Rattle.std.proofs.Common.{◌≡◌, ℕ, zero, suc, ◌+◌, ◌-◌, ◌*◌, ◌/◌, ◌%◌, ◌<◌, ◌≤◌, min, true, false, cond, ltb, get_or, ℤ, pos, negsuc, refl, sym, ap, ◌∙◌, arith}
 use native.Mathlib.Decide.{dec_lt}
 use lib.Signed.{mag}
 use Rattle.lists.proofs.Least.{least_at}
 use Rattle.signed.specs.Signed.{raised}
 use Rattle.signed.proofs.Raised.{raised-same, raised-apart, raised_down, raised_up}
-use Rattle.format.specs.Tables.{l_levels, l_plus_levels}
+use Rattle.format.specs.Tables.{l_index_adjust, l_levels, l_plus_levels}
 use Rattle.format.specs.Layout.{bits}
 use Rattle.format.specs.Step.{step_at, bit_set, l_size, level_of, unclamped_predictor, unclamped_index, stepped}
 use Rattle.format.specs.Decode.{InRange}
@@ -61,6 +61,16 @@ grows g i (suc (suc (suc (suc j)))) h l = let z : ⊥ = omega arith in absurd z
 grows g (suc i) (suc zero) h l = let z : ⊥ = omega arith in absurd z
 grows g (suc (suc i)) (suc (suc zero)) h l = let z : ⊥ = omega arith in absurd z
 grows g (suc (suc (suc i))) (suc (suc (suc zero))) h l = let z : ⊥ = omega arith in absurd z
+
+-- ---- what the code adds to the index
+
+adjusted : (m : ℕ) → m < 4 → get_or l_index_adjust m (pos 0) ≡ cond (ltb 0 m) (pos (2 * m)) (negsuc 0)
+unfolding l_index_adjust
+adjusted zero h = refl
+adjusted (suc zero) h = refl
+adjusted (suc (suc zero)) h = refl
+adjusted (suc (suc (suc zero))) h = refl
+adjusted (suc (suc (suc (suc m)))) h = let z : ⊥ = omega arith in absurd z
 
 -- ---- distances of a mark x from a place p, and of what lies s beyond p toward x or away from it
 
@@ -166,21 +176,18 @@ module _ (variant : Variant) (s : State) (input : ℤ) (three : bits variant ≡
         go (yes l) = omega (arith, ed l)
         go (no l) = let h : p ≤ x = omega arith in omega (arith, eu h)
 
-    -- what the code's three tests choose
-    pub l_chosen : {a b c d m v : ℕ} → a ≡ cut size room 0 → b ≡ cut size room 1 → c ≡ cut size room 2 → d ≡ cut size room 3
-        → m ≡ cond (ltb (a + b) (2 * r)) 1 0 + cond (ltb (b + c) (2 * r)) 1 0 + cond (ltb (c + d) (2 * r)) 1 0
-        → v ≡ cond (ltb (c + d) (2 * r)) d (cond (ltb (b + c) (2 * r)) c (cond (ltb (a + b) (2 * r)) b a))
-        → Chosen r (cut size room) m v (ltb (a + b) (2 * r))
-    l_chosen ea eb ec ed em ev =
-        rw (em, ev, ea, eb, ec, ed) (chosen r (cut size room) (rises r room 0 size order some fits) (differ r room 0 size order some fits) _ _ _ refl refl refl)
+    -- what the code's tests choose
+    pub l_chosen : (m v : ℕ) → m < 4 → v ≡ cut size room m → (0 < m → cut size room (m - 1) + cut size room m < 2 * r)
+        → (m < 3 → 2 * r ≤ cut size room m + cut size room (m + 1)) → Chosen r (cut size room) m v
+    l_chosen m v h e under over = chosen r (cut size room) (rises r room 0 size order some fits) (differ r room 0 size order some fits) m v h e under over
 
-    module _ {m v : ℕ} {up : Bool} (k : Chosen r (cut size room) m v up) {u : ℕ} (d : Landed x p (2 * r) v u) (q : ℤ) (i : ℕ)
-        (eq : raised q ≡ u) (hq : mag q ≤ 32767) (ei : i ≡ cond up (min (s.index + 2 * m) 88) (s.index - 1)) where
+    module _ {m v : ℕ} (k : Chosen r (cut size room) m v) {u : ℕ} (d : Landed x p (2 * r) v u) (q : ℤ) (i : ℕ)
+        (eq : raised q ≡ u) (hq : mag q ≤ 32767) (ei : i ≡ cond (ltb 0 m) (min (s.index + 2 * m) 88) (s.index - 1)) where
       ends : (code : ℕ) → code % 4 ≡ m → Lowest cost code → u ≡ landing code
           → Stepped q i
       unfolding landing stepped unclamped_predictor unclamped_index
       ends code em l e =
-          rw (code_is code l, adjustment_three variant code three, em, k.adjust, index_moved up s.index (2 * m) hs.index, ei)
+          rw (code_is code l, adjustment_three variant code three, em, adjusted m k.within, index_moved (ltb 0 m) s.index (2 * m) hs.index, ei)
           (cc (raised-same q (stepped 3 variant s code).predictor hq (stepped_range 3 variant s code).predictor (eq ∙ e)))
 
       stepped_down : x < p → Stepped q i

@@ -1,8 +1,7 @@
 -- Of eight candidates, four on each side of a place, the first of those nearest to a mark on one side: by three comparisons, and one
 -- where the other side is cut short. Assumes nothing.
-use Rattle.std.proofs.Common.{◌≡◌, ℕ, ◌+◌, ◌-◌, ◌*◌, ◌<◌, ◌≤◌, min, Bool, true, false, cond, ltb, ◌⊎◌, get_or, pos, negsuc, refl, subst, inl, inr, ⊎_elim, arith, ltb-false, ltb-true}
+use Rattle.std.proofs.Common.{◌≡◌, ℕ, ◌+◌, ◌-◌, ◌*◌, ◌<◌, ◌≤◌, min, ◌⊎◌, subst, inl, inr, ⊎_elim, arith}
 use native.Mathlib.Decide.{dec_lt}
-use Rattle.format.specs.Tables.{l_index_adjust}
 
 abbrev pub apart : ℕ → ℕ → ℕ
 apart a b = a - b + (b - a)
@@ -10,10 +9,9 @@ apart a b = a - b + (b - a)
 -- ---- four offsets in order, and a mark r: the nearest, and the lowest of the nearest
 
 -- the middles below m lie short of r, and those above do not
-pub record Chosen (r : ℕ) (o : ℕ → ℕ) (m v : ℕ) (up : Bool) : Type 0 where
+pub record Chosen (r : ℕ) (o : ℕ → ℕ) (m v : ℕ) : Type 0 where
   pub within : m < 4
   pub value : v ≡ o m
-  pub adjust : get_or l_index_adjust m (pos 0) ≡ cond up (pos (2 * m)) (negsuc 0)
   pub below : (i : ℕ) → i < m → o i + o m < 2 * r
   pub above : (j : ℕ) → m < j → j < 4 → 2 * r ≤ o m + o j
 
@@ -22,46 +20,17 @@ abbrev pub cut : (ℕ → ℕ) → ℕ → ℕ → ℕ
 cut size room j = min (size j) room
 
 module _ (r : ℕ) (o : ℕ → ℕ) (rises : (i j : ℕ) → i ≤ j → j < 4 → o i ≤ o j) (differ : (i j : ℕ) → i < j → j < 4 → (o i < o j) ⊎ (r ≤ o j)) where
-  pub chosen : (a b c : Bool) → ltb (o 0 + o 1) (2 * r) ≡ a → ltb (o 1 + o 2) (2 * r) ≡ b → ltb (o 2 + o 3) (2 * r) ≡ c
-      → Chosen r o (cond a 1 0 + cond b 1 0 + cond c 1 0) (cond c (o 3) (cond b (o 2) (cond a (o 1) (o 0)))) a
-  unfolding l_index_adjust
-  chosen false false false ea eb ec =
+  -- by the middles on both sides of the nearest
+  pub chosen : (m v : ℕ) → m < 4 → v ≡ o m → (0 < m → o (m - 1) + o m < 2 * r) → (m < 3 → 2 * r ≤ o m + o (m + 1)) → Chosen r o m v
+  chosen m v h e under over =
       record {
-        within = omega arith;
-        value = refl;
-        adjust = refl;
-        below = λ i k. absurd (omega arith);
-        above = λ j k l. omega (arith, ltb-false (o 0 + o 1) (2 * r) ea, rises 1 j k l);
+        within = h;
+        value = e;
+        below = λ i k. omega (arith, under (omega arith), rises i (m - 1) (omega arith) (omega arith));
+        above = λ j k l. omega (arith, over (omega arith), rises (m + 1) j (omega arith) l);
       }
-  chosen true false false ea eb ec =
-      record {
-        within = omega arith;
-        value = refl;
-        adjust = refl;
-        below = λ i k. omega (arith, ltb-true (o 0 + o 1) (2 * r) ea, rises i 0 (omega arith) (omega arith));
-        above = λ j k l. omega (arith, ltb-false (o 1 + o 2) (2 * r) eb, rises 2 j k l);
-      }
-  chosen true true false ea eb ec =
-      record {
-        within = omega arith;
-        value = refl;
-        adjust = refl;
-        below = λ i k. omega (arith, ltb-true (o 1 + o 2) (2 * r) eb, rises i 1 (omega arith) (omega arith));
-        above = λ j k l. omega (arith, ltb-false (o 2 + o 3) (2 * r) ec, rises 3 j k l);
-      }
-  chosen true true true ea eb ec =
-      record {
-        within = omega arith;
-        value = refl;
-        adjust = refl;
-        below = λ i k. omega (arith, ltb-true (o 2 + o 3) (2 * r) ec, rises i 2 (omega arith) (omega arith));
-        above = λ j k l. absurd (omega arith);
-      }
-  chosen false true c ea eb ec = absurd (omega (arith, ltb-false (o 0 + o 1) (2 * r) ea, ltb-true (o 1 + o 2) (2 * r) eb, rises 0 2 (omega arith) (omega arith)))
-  chosen false false true ea eb ec = absurd (omega (arith, ltb-false (o 1 + o 2) (2 * r) eb, ltb-true (o 2 + o 3) (2 * r) ec, rises 1 3 (omega arith) (omega arith)))
-  chosen true false true ea eb ec = absurd (omega (arith, ltb-false (o 1 + o 2) (2 * r) eb, ltb-true (o 2 + o 3) (2 * r) ec, rises 1 3 (omega arith) (omega arith)))
 
-  module _ {m v : ℕ} {up : Bool} (k : Chosen r o m v up) where
+  module _ {m v : ℕ} (k : Chosen r o m v) where
     pub lower_farther : (j : ℕ) → j < m → apart r (o m) < apart r (o j)
     lower_farther j l =
         ⊎_elim (λ (h : o j < o m). omega (arith, k.below j l)) (λ (h : r ≤ o m). omega (arith, k.below j l)) (differ j m l k.within)
@@ -110,7 +79,7 @@ module _ (r room other : ℕ) (size : ℕ → ℕ) (grows : (i j : ℕ) → i < 
       go (yes k) = inl (omega (arith, grows i j h l))
       go (no k) = inr (omega (arith, grows i j h l))
 
-  module _ {m v : ℕ} {up : Bool} (k : Chosen r (cut size room) m v up) where
+  module _ {m v : ℕ} (k : Chosen r (cut size room) m v) where
     -- what is behind is no nearer, unless it is cut short
     behind : cut size room m ≤ 2 * r + other → (j : ℕ) → j < 4 → apart r (cut size room m) ≤ r + cut size other j
     behind h j l = go (dec_lt 0 m)

@@ -176,8 +176,8 @@ impl Coder {
         }
     }
 
-    // Internal: the state after the L or L+ code for a normalised sample, without the eight candidates: which of the four toward the
-    // sample is the nearest, as many of the three middles between them lie short of the sample.
+    // Internal: the state after the L or L+ code for a normalised sample, without the eight candidates: of the four toward the sample the
+    // nearest is the last that lies, together with the one before it, short of twice the distance.
     fn l_next(&self, state: Reached, input: i16) -> Reached
         requires { bits self.now.settings.variant ≡ 3 }
         ensures { result.state ≡ stepped 3 self.now.settings.variant state.state (l_code self.now.settings.variant state.state input) }
@@ -190,22 +190,19 @@ impl Coder {
         let b = sizes.b;
         let c = sizes.c;
         let d = sizes.d;
-        let m = adpcm::part_of(a + b < twice, 1)
-            + adpcm::part_of(b + c < twice, 1)
-            + adpcm::part_of(c + d < twice, 1);
-        let offset = if c + d < twice {
-            d
+        let (m, offset) = if c + d < twice {
+            (3, d)
         } else if b + c < twice {
-            c
+            (2, c)
         } else if a + b < twice {
-            b
+            (1, b)
         } else {
-            a
+            (0, a)
         };
         Reached {
             state: State {
                 predictor: signed::lower(pair.l_landed(offset)),
-                index: moved(index, a + b < twice, 2 * m),
+                index: moved(index, 0 < m, 2 * m),
             },
         }
     }
