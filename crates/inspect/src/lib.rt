@@ -1,22 +1,22 @@
 // Inspection: the checks of the header, then of each fragment in file order.
 #![tactic(auto)]
 
-ghost use Rattle.std.specs.Prelude.{◌≡◌, ℕ, ◌*◌, ◌/◌, ◌≤◌, length};
+ghost use Rattle.std.specs.Prelude.{◌≡◌, ◌*◌, ◌/◌, ◌≤◌, length};
 ghost use Rattle.outcome.specs.Outcome.{in_order};
-ghost use Rattle.format.specs.Layout.{header_of, frames, count, fragment_at_place};
-ghost use Rattle.format.specs.Inspect.{same_letters, field_checks, header_checks, index_too_high, unused_zero, fragment_checks, inspected};
+ghost use Rattle.format.specs.Layout.{header_of, frames, fragment_at_place};
+ghost use Rattle.format.specs.Inspect.{same_letters, field_checks, header_checks, fragment_checks, inspected};
 ghost use Rattle.format.specs.Answers.{answered};
 
-use format::{Coding, Error, Header, State, Variant};
-use layout::Stream;
+use format::{Error, Header, State, Variant};
+use layout::{Place, Stream};
 
 // Internal: whether the first four bytes are "SQV4".
-#[tactic(auto, unfolding(format::specs::Inspect::same_letters))]
+#[tactic(auto, using(lists::proofs::Letters::letters_equal), unfolding(format::specs::Inspect::same_letters))]
 fn same_letters(file: &[u8]) -> bool
     requires { 4 ≤ length file.now }
     ensures { result ≡ same_letters file.now }
 {
-    matches!(file, [b'S', b'Q', b'V', b'4', ..])
+    file.starts_with(b"SQV4")
 }
 
 // Internal: what the first 16 bytes state, where the variant byte names this variant.
@@ -61,7 +61,7 @@ fn field_checks(file: &[u8], h: Header) -> Result<Header, Error>
 }
 
 // The checks 5, 6, 7, 8, then 1, 9, 2, 10.
-#[tactic(auto, using(outcome::proofs::Laws::checks), unfolding(format::specs::Inspect::header_checks, format::specs::Answers::number_of, format::specs::Answers::values_of))]
+#[tactic(auto, using(outcome::proofs::Laws::checks), unfolding(outcome::specs::Outcome::and_then, format::specs::Inspect::header_checks, format::specs::Answers::number_of, format::specs::Answers::values_of))]
 fn header_checks(file: &[u8]) -> Result<Header, Error>
     ensures { answered result ≡ header_checks file.now }
 {
@@ -79,50 +79,39 @@ fn header_checks(file: &[u8]) -> Result<Header, Error>
     field_checks(file, header_of(file, variant))
 }
 
-// Internal: whether the fragment stores an index, and one above 88.
-#[tactic(auto, using(outcome::proofs::Laws::checks), unfolding(format::specs::Inspect::index_too_high))]
-fn index_too_high(coding: Coding, fragment: &[u8]) -> bool
-    requires { 2 ≤ length fragment.now }
-    ensures { result ≡ index_too_high coding.version fragment.now }
+// The checks 11 and 12 of a fragment.
+#[tactic(auto, using(outcome::proofs::Laws::checks), unfolding(format::specs::Inspect::fragment_checks, format::specs::Inspect::index_too_high, format::specs::Inspect::unused_zero, format::specs::Answers::number_of, format::specs::Answers::values_of))]
+fn fragment_checks(place: &Place) -> Result<Header, Error>
+    ensures { answered result ≡ fragment_checks place.now.stream.header (place.now.p / place.now.stream.header.channels)
+        (fragment_at_place place.now.stream.header place.now.stream.file.now place.now.p) }
 {
-    coding.starts_anew() && State::MAX_STEP_INDEX < fragment[1]
-}
-
-// Internal: whether the bits after the codes of a fragment of `n` samples are zero.
-fn unused_zero(h: Header, n: usize, fragment: &[u8]) -> bool
-    requires { (n ≤ 64) × (2 ≤ length fragment.now) }
-    ensures { (f : ℕ) → n ≡ count h f → result ≡ unused_zero h f fragment.now }
-{
-    let start = h.coding().prefix_size();
-    digits::unused_bits_zero(&fragment[start..], h.variant.bits() * n)
-}
-
-// Internal: the checks 11 and 12 of a fragment of `n` samples.
-#[tactic(auto, using(outcome::proofs::Laws::checks), unfolding(format::specs::Inspect::fragment_checks, format::specs::Answers::number_of, format::specs::Answers::values_of))]
-fn fragment_checks(h: Header, n: usize, fragment: &[u8]) -> Result<Header, Error>
-    requires { (n ≤ 64) × (2 ≤ length fragment.now) }
-    ensures { (f : ℕ) → n ≡ count h f → answered result ≡ fragment_checks h f fragment.now }
-{
-    if index_too_high(h.coding(), fragment) {
-        return Err(Error::InvalidStepIndex(fragment[1]));
+    let h = place.stream.header;
+    let fragment = place.fragment();
+    if let Some(index) = fragment.index(h.coding())
+        && State::MAX_STEP_INDEX < index
+    {
+        return Err(Error::InvalidStepIndex(index));
     }
-    if !unused_zero(h, n, fragment) {
+    let used = h.variant.bits() * place.samples();
+    if !digits::unused_bits_zero(fragment.payload(h.coding()), used) {
         return Err(Error::NonZeroPadding);
     }
     Ok(h)
 }
 
 // The checks of every fragment, in file order. The first refusal counts.
+#[tactic(auto, unfolding(outcome::specs::Outcome::in_order))]
 fn check_fragments(stream: &Stream) -> Result<Header, Error>
     ensures { answered result ≡ in_order stream.now.header (λ p. fragment_checks stream.now.header (p / stream.now.header.channels) (fragment_at_place stream.now.header stream.now.file.now p)) (frames stream.now.header * stream.now.header.channels) }
 {
     for p in 0..stream.fragments() {
-        fragment_checks(stream.header, stream.samples_at(p), stream.fragment_at(p))?;
+        fragment_checks(&stream.place(p))?;
     }
     Ok(stream.header)
 }
 
 // Inspection: the header of a stream that is accepted, or the first refusal.
+#[tactic(auto, unfolding(outcome::specs::Outcome::and_then, format::specs::Inspect::inspected))]
 pub fn inspect(file: &[u8]) -> Result<Header, Error>
     ensures { answered result ≡ inspected file.now }
 {

@@ -4,7 +4,6 @@ use mathlib.Core.List.{List, [], ◌∷◌, ◌++◌, map, append_assoc, append-
 use mathlib.Core.Bool.{Bool, true, false, cond}
 use Prim.Native.Nat.{ℕ, ◌/◌, ◌%◌, ◌^◌, ◌≤◌, ◌<◌}
 use native.Mathlib.Omega.{arith}
-use borrow.Author.Tests.{le-leb, lt-leb}
 use lib.ListN.{length, length-append}
 use Rattle.format.specs.Layout.{anew, volume_byte, index_byte, count, fragment_at_place}
 use Rattle.format.specs.declared.Header.{Header}
@@ -43,16 +42,6 @@ unfolding spaced_values letters
 two_values a b h k = simp length-append (omega (arith, decimal_few a h, decimal_few b k))
 
 -- ---- the inspector's lines
-
--- the index field, and what stands for it in versions 1 and 2
-module _ (version : ℕ) (fragment : List ℕ) where
-  pub index_shown : 3 ≤ version → index_field version fragment ≡ decimal (index_byte fragment)
-  unfolding index_field
-  index_shown l = rw (le-leb _ _ l)
-
-  pub index_hidden : version < 3 → index_field version fragment ≡ letters "-"
-  unfolding index_field
-  index_hidden l = rw (lt-leb _ _ l)
 
 regroup : (a b c d e f : List ℕ) → ((((a ++ b) ++ c) ++ d) ++ e) ++ f ≡ a ++ (b ++ (c ++ (d ++ (e ++ f))))
 regroup a b c d e f = simp append_assoc

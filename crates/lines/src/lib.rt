@@ -2,14 +2,13 @@
 // in specs/, which has at most 128 bytes.
 #![tactic(auto)]
 
-ghost use Rattle.std.specs.Prelude.{◌≡◌, ◌*◌, ◌<◌, ◌≤◌, length};
+ghost use Rattle.std.specs.Prelude.{◌≡◌, ◌≤◌, length};
 ghost use Rattle.outcome.specs.Outcome.{listed};
-ghost use Rattle.format.specs.Layout.{frames};
 ghost use Rattle.text.specs.Printer.{Printed};
 ghost use Rattle.lines.specs.Lines.{refusal_line, spaced_values, variant_name, header_line, index_field, fragment_line};
 
-use format::{Coding, Header, Variant};
-use layout::Stream;
+use format::{Coded, Coding, Header, Variant};
+use layout::Place;
 use outcome::{Refusal, Values};
 use text::Printer;
 
@@ -65,31 +64,28 @@ pub fn header_line(page: &mut Printer, h: Header)
 }
 
 // Internal: the index field of a fragment.
-fn index_field(page: &mut Printer, coding: Coding, fragment: &[u8])
-    requires { 2 ≤ length fragment.now }
-    ensures prints { Printed page.old (index_field coding.version fragment.now) page.new }
-    ensures short { length (index_field coding.version fragment.now) ≤ 20 }
+#[tactic(auto, using(crate::proofs::Lines::index_few), unfolding(crate::specs::Lines::index_field, text::specs::Text::letters))]
+fn index_field(page: &mut Printer, coding: Coding, fragment: &Coded)
+    ensures prints { Printed page.old (index_field coding.version fragment.now.bytes.now) page.new }
+    ensures short { length (index_field coding.version fragment.now.bytes.now) ≤ 20 }
 {
-    if coding.starts_anew() {
-        page.number(fragment[1] as u64);
-    } else {
-        page.word(b"-");
+    match fragment.index(coding) {
+        Some(index) => page.number(index as u64),
+        None => page.word(b"-"),
     }
 }
 
-// Internal: the line of the fragment at place `p` of the file order.
-pub fn fragment_line(page: &mut Printer, stream: &Stream, p: usize)
-    requires { p < frames stream.now.header * stream.now.header.channels }
-    ensures prints { Printed page.old (fragment_line stream.now.header stream.now.file.now p) page.new }
-    ensures short { length (fragment_line stream.now.header stream.now.file.now p) ≤ 128 }
+// Internal: the line of the fragment at a place of a stream.
+pub fn fragment_line(page: &mut Printer, place: &Place)
+    ensures prints { Printed page.old (fragment_line place.now.stream.header place.now.stream.file.now place.now.p) page.new }
+    ensures short { length (fragment_line place.now.stream.header place.now.stream.file.now place.now.p) ≤ 128 }
 {
-    let channels = stream.header.channels as usize;
-    let fragment = stream.fragment_at(p);
-    page.number((p / channels) as u64);
-    page.field(b" ", (p % channels) as u64);
-    page.field(b" ", stream.samples_at(p) as u64);
-    page.field(b" ", fragment[0] as u64);
+    let fragment = place.fragment();
+    page.number(place.frame() as u64);
+    page.field(b" ", place.channel() as u64);
+    page.field(b" ", place.samples() as u64);
+    page.field(b" ", fragment.volume() as u64);
     page.word(b" ");
-    index_field(page, stream.header.coding(), fragment);
+    index_field(page, place.stream.header.coding(), &fragment);
     page.word(b"\n");
 }

@@ -1,5 +1,5 @@
--- Four letters, compared at once. Assumes nothing.
-use mathlib.Core.Path.{◌≡◌, refl, ap₂, ◌∙◌}
+-- Four letters, compared by std's `starts_with`. Assumes nothing.
+use mathlib.Core.Path.{◌≡◌, refl, ap, ap₂, ◌∙◌}
 use mathlib.Core.Bool.{Bool, true, false, ◌&&◌}
 use mathlib.Core.List.{List, [], ◌∷◌}
 use Prim.Native.Nat.{ℕ, ◌+◌, ◌≤◌, ◌<◌}
@@ -9,11 +9,15 @@ use lib.Dec.{eqb, lit<}
 use lib.ListN.{length, get_or, take, drop, length-drop}
 use lib.Seq.{length-take-le, get_or-take, get_or-drop}
 use Rattle.std.specs.Cmp.Lexicographic.{pointwise}
+use Rattle.std.proofs.lemmas.Bool.Decides.{nat_tests}
 use Rattle.std.proofs.lemmas.Slice.Eq.{text_from_reads}
 
 -- the four bytes from `at` on
 abbrev four_from : List ℕ → ℕ → List ℕ
 four_from s at = get_or s at 0 ∷ get_or s (at + 1) 0 ∷ get_or s (at + 2) 0 ∷ get_or s (at + 3) 0 ∷ []
+
+turned : (a b : ℕ) → eqb a b ≡ eqb b a
+turned a b = grind (arith, nat_tests)
 
 grouped : (p q r t : Bool) → (p && (q && (r && (t && true)))) ≡ (p && q && r && t)
 grouped true true true true = refl
@@ -34,7 +38,10 @@ module _ (s l : List ℕ) (at : ℕ) (within : at + 4 ≤ length s) (four : leng
   letters : l ≡ four_from l 0
   letters = text_from_reads _ _ four (refl, (refl, (refl, (refl, tt))))
 
-  pub letters_equal : pointwise eqb (take 4 (drop at s)) l
+  pub letters_equal : pointwise eqb l (take (length l) (drop at s))
       ≡ (eqb (get_or s at 0) (get_or l 0 0) && eqb (get_or s (at + 1) 0) (get_or l 1 0)
       && eqb (get_or s (at + 2) 0) (get_or l 2 0) && eqb (get_or s (at + 3) 0) (get_or l 3 0))
-  letters_equal = ap₂ (pointwise eqb) bytes_at letters ∙ grouped (eqb (get_or s at 0) (get_or l 0 0)) (eqb (get_or s (at + 1) 0) (get_or l 1 0)) _ _
+  letters_equal =
+      ap₂ (pointwise eqb) letters (ap (λ n. take n (drop at s)) four ∙ bytes_at)
+      ∙ grouped (eqb (get_or l 0 0) (get_or s at 0)) (eqb (get_or l 1 0) (get_or s (at + 1) 0)) _ _
+      ∙ simp (turned (get_or s at 0), turned (get_or s (at + 1) 0), turned (get_or s (at + 2) 0), turned (get_or s (at + 3) 0))

@@ -8,13 +8,13 @@ ghost use Rattle.wav_format.specs.Answers.{answered};
 use wav_format::{Chunks, Format, Part, WaveError};
 
 // Internal: whether the four bytes from `at` on are these letters.
-#[tactic(auto, using(lists::proofs::Letters::letters_equal), unfolding(wav_format::specs::Wave::letters_at))]
+#[tactic(auto, using(lists::proofs::Letters::letters_equal, digits::proofs::Laws::tail_all), unfolding(wav_format::specs::Wave::letters_at))]
 pub fn letters_at(s: &[u8], at: usize, letters: &[u8; 4]) -> bool
     requires { at + 4 ≤ length s.now }
     ensures { result ≡ letters_at s.now at (slice_index letters.now 0) (slice_index letters.now 1)
         (slice_index letters.now 2) (slice_index letters.now 3) }
 {
-    s[at..at + 4] == letters[..]
+    s[at..].starts_with(letters)
 }
 
 // Internal: the fields of a fmt chunk whose contents start at `start`.

@@ -1,38 +1,22 @@
-use mathlib.Core.Path.{◌≡◌, refl, sym}
-use Prim.Native.Nat.{◌<◌, ◌*◌}
+use mathlib.Core.Path.{◌≡◌, sym, ◌∙◌}
+use native.Mathlib.Numerals.{add-one}
 use native.Mathlib.Omega.{arith}
-use Rattle.outcome.proofs.Laws.{passed_on}
-use Rattle.outcome.specs.Outcome.{in_order}
-use Rattle.format.specs.Layout.{frames}
-use Rattle.inspect.proofs.Laws.{one_more, refused_here}
-use Rattle.layout.proofs.Places.{place_prefix}
+use Rattle.outcome.proofs.Laws.{passed_on, order_next, order_refused}
+use Rattle.format.specs.Answers.{answered}
+use Rattle.inspect.proofs.Laws.{check_at, same-header}
 use Rattle.inspect.proofs.check_fragments.Goals as goal
+use Rattle.inspect.proofs.check_fragments.Goals.{After-fragment_checks}
 
-pub loop-p-init : goal.loop-p-init
-unfolding in_order
-loop-p-init c = refl
-
-pub fragment_checks-requires : goal.fragment_checks-requires
-fragment_checks-requires c =
-    let s = c.args.stream.now in
-    (c.samples_at.ensures.1, rw c.fragment_at.ensures (place_prefix s.header s.file.now c.loop-p.p s.whole (omega arith)))
+-- this turn's checks are those of place p
+here : (c : After-fragment_checks) → answered c.fragment_checks.result ≡ check_at c.args.stream.now.header c.args.stream.now.file.now c.loop-p.p
+here c = rw (c.place.ensures.0, c.place.ensures.1, c.place.ensures.2) at c.fragment_checks.ensures
 
 pub returns-in_err-fragment_checks : goal.returns-in_err-fragment_checks
 returns-in_err-fragment_checks c =
-    let s = c.args.stream.now in
-    let below : c.loop-p.p < frames s.header * s.header.channels = omega arith in
-    passed_on _ _ _ _ _ c.from_residual.ensures.1
-    (refused_here s.header s.file.now c.loop-p.p _ c.fragment_at.ensures c.loop-p.invariant _ _ below
-    (rw c.in_err-fragment_checks.was at (c.fragment_checks.ensures _ c.samples_at.ensures.0)))
+    let refused = rw c.in_err-fragment_checks.was at (here (goal.at.returns-in_err-fragment_checks c).After-fragment_checks) in
+    passed_on _ _ _ _ _ c.from_residual.ensures.1 (sym (order_refused _ _ _ _ c.loop-p.invariant (sym refused) (omega arith)))
 
 pub loop-p-preserved : goal.loop-p-preserved
 loop-p-preserved c =
-    let s = c.args.stream.now in
-    one_more s.header s.file.now c.loop-p.p _ c.fragment_at.ensures c.loop-p.invariant _
-    (rw c.in_ok-fragment_checks.was at (c.fragment_checks.ensures _ c.samples_at.ensures.0))
-
-pub returns : goal.returns
-returns c =
-    let s = c.args.stream.now in
-    let all : c.loop-p.p ≡ frames s.header * s.header.channels = omega arith in
-    rw (← all) (sym c.loop-p.invariant)
+    let passed = rw c.in_ok-fragment_checks.was at (here (goal.at.loop-p-preserved c).After-fragment_checks) in
+    rw add-one (order_next _ _ _ c.loop-p.invariant ∙ same-header _ _ _ passed)
