@@ -10,6 +10,7 @@ ghost use Rattle.fragment.specs.Tried.{Filled, Refused};
 use format::{Coded, Coding, Error, Reached, State, Variant};
 
 // Whether the fragment has its size, and an output of `n` samples is not too long for it.
+#[tactic(auto, using(outcome::proofs::Laws::checks), unfolding(format::specs::Decode::fragment_fits))]
 fn fragment_fits(coding: Coding, fragment: &[u8], n: usize) -> bool
     ensures { result ≡ fragment_fits coding.version coding.variant fragment.now n }
 {
@@ -32,6 +33,7 @@ fn usable(coding: Coding, state: State) -> Result<Reached, Error>
 }
 
 // The state after a fragment, whose samples fill the output; an error leaves the output as it was.
+#[tactic(auto, using(outcome::proofs::Laws::checks, format::proofs::Range::fits_size, format::proofs::Sizes::payload_few, format::proofs::Range::returned_anew, fragment_core::proofs::Fragments::samples_anew), unfolding(format::specs::Decode::fragment_call, format::specs::Answers::number_of, format::specs::Answers::values_of))]
 fn decode(coding: Coding, state: State, fragment: &[u8], out: &mut [i16]) -> Result<State, Error>
     ensures { MatchResult result (Filled coding.version coding.variant state fragment.now out.old out.new)
         (Refused coding.version coding.variant state fragment.now out.old out.new) }
