@@ -1,7 +1,7 @@
 // Encoding one fragment: the codes of the trial from a start index, the best start, which `search` finds, and the fragment's bytes.
 #![tactic(auto)]
 
-ghost use Rattle.std.specs.Prelude.{◌≡◌, ◌∷◌, map, ℕ, ◌-◌, ◌<◌, ◌≤◌, ◌^◌, length, get_or, take};
+ghost use Rattle.std.specs.Prelude.{◌≡◌, ◌∷◌, map, ℕ, ℤ, ◌-◌, ◌<◌, ◌≤◌, ◌^◌, length, get_or, take};
 ghost use Rattle.digits.specs.Digits.{packed};
 ghost use Rattle.format.specs.Layout.{fragment_size};
 ghost use Rattle.format.specs.Gain.{pregained, normalised};
@@ -11,29 +11,17 @@ use advance::Coder;
 use format::{Coding, Reached};
 use search::Fragment;
 
-// Internal: the samples after pre-gain, at the front of 63 places, since the codec uses no heap.
-fn pre_gained(samples: &[i16], gain: u8) -> [i16; 63]
-    requires { length samples.now ≤ 63 }
-    ensures { take (length samples.now) result ≡ map (pregained gain) samples.now }
+// Internal: what a function gives of the samples, at the front of 63 places, since the codec uses no heap.
+fn mapped<F: Fn(i16) -> i16>(xs: &[i16], f: F) -> [i16; 63]
+    requires few { length xs.now ≤ 63 }
+    requires callable { F.IsAlwaysCallable f }
+    ensures { (g : ℤ → ℤ) → ((x y : ℤ) → F.post f x y → y ≡ g x) → take (length xs.now) result ≡ map g xs.now }
 {
-    let mut xs = [0i16; 63];
-    for (i, sample) in samples.iter().enumerate() {
-        xs[i] = gain::pre_gain(*sample, gain);
-    }
-    xs
-}
-
-// Internal: the samples, normalised to full scale. With the function as a parameter this and `pre_gained` would be one, but each caller
-// would need a law about what its closure gave.
-fn normalized(xs: &[i16], volume: u8) -> [i16; 63]
-    requires { (length xs.now ≤ 63) × (0 < volume) }
-    ensures { take (length xs.now) result ≡ map (normalised volume) xs.now }
-{
-    let mut targets = [0i16; 63];
+    let mut ys = [0i16; 63];
     for (i, x) in xs.iter().enumerate() {
-        targets[i] = gain::normalize(*x, volume);
+        ys[i] = f(*x);
     }
-    targets
+    ys
 }
 
 // The codes of the trial from a start index, one for each sample from place 0 on.
@@ -87,14 +75,14 @@ pub fn encode_fragment(coder: &Coder, samples: &[i16], out: &mut [u8])
         return;
     }
     let count = samples.len();
-    let pre_gained = pre_gained(samples, coder.settings.gain);
+    let pre_gained = mapped(samples, |x| gain::pre_gain(x, coder.settings.gain));
     let xs = &pre_gained[..count];
     let volume = gain::fragment_volume(xs);
     if volume == 0 {
         out.fill(0);
         return;
     }
-    let normalized = normalized(xs, volume);
+    let normalized = mapped(xs, |x| gain::normalize(x, volume));
     let targets = &normalized[..count];
     let fragment = Fragment {
         coder,

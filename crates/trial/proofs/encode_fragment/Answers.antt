@@ -1,5 +1,7 @@
 -- `trial::encode_fragment` meets its contract: its steps are those of the definition. Assumes nothing.
 use mathlib.Core.Path.{refl, sym, ◌∙◌}
+use Rattle.std.proofs.Common.{rules}
+use Rattle.format.specs.Gain.{pregained}
 use Rattle.trial.proofs.Fragment.{silent_volume, silent_bytes, best_bytes}
 use Rattle.trial.proofs.encode_fragment.Goals as goal
 
@@ -10,10 +12,12 @@ returns-then-peak_of-eq0 c =
 
 pub returns-then-volume-eq0 : goal.returns-then-volume-eq0
 returns-then-volume-eq0 c =
-    silent_bytes c.args.coder.now.settings c.args.samples.now _ _ c.pre_gained-pre_gained.ensures c.fragment_volume-volume.ensures _
+    silent_bytes c.args.coder.now.settings c.args.samples.now _ _
+    (c.mapped-pre_gained.ensures (pregained c.args.coder.now.settings.gain) (λ x y e. search rules)) c.fragment_volume-volume.ensures _
     (c.fill-then-volume-eq0.ensures.after (λ y e. e)) c.requires.1
     c.if-volume-eq0.true
 
 pub returns : goal.returns
 returns c =
-    best_bytes c.args.coder.now.settings c.args.samples.now _ _ c.pre_gained-pre_gained.ensures c.fragment_volume-volume.ensures c.put_best.ensures c.if-volume-eq0.false
+    best_bytes c.args.coder.now.settings c.args.samples.now _ _
+    (c.mapped-pre_gained.ensures (pregained c.args.coder.now.settings.gain) (λ x y e. search rules)) c.fragment_volume-volume.ensures c.put_best.ensures c.if-volume-eq0.false
