@@ -6,6 +6,15 @@
 ghost use Rattle.std.specs.Prelude.{◌≡◌, ℕ, ◌+◌, ◌*◌, ◌^◌, ◌≤◌, ◌<◌, ◌++◌, length, get_or, take, drop};
 ghost use Rattle.digits.specs.Digits.{number, digits, stored, field, packed, unpacked, code_at, rest_zero};
 
+// Codes with their width, of 1 to 8 bits. `unpack_code` and `regroup`'s target take their width as a number: they take 0 too.
+#[derive(Clone, Copy)]
+pub struct Codes<'a> {
+    pub codes: &'a [u8],
+    pub bits: usize,
+    ghost width: { (0 < bits) × (bits ≤ 8) },
+    ghost small: { (i : ℕ) → get_or codes.now i 0 < 2 ^ bits },
+}
+
 // The element at `k`, and 0 past the end.
 fn at_or_zero(s: &[u8], k: usize) -> u64
     ensures { (result ≡ get_or s.now k 0) × (result < 256) }
@@ -34,23 +43,22 @@ pub fn unpack_code(payload: &[u8], at: usize, bits: usize) -> u8
     (window % pow2(bits)) as u8
 }
 
-// Internal: the digits of `a` bits in `src`, written as digits of `b` bits that fill `dst`: packing and unpacking, at any widths.
-pub fn regroup(src: &[u8], a: usize, dst: &mut [u8], b: usize)
-    requires a_nonzero { (0 < a) × (a ≤ 8) × (b ≤ 8) × (length dst.old < 2 ^ 32) }
-    requires by_index { (i : ℕ) → get_or src.now i 0 < 2 ^ a }
-    ensures { dst.new ≡ digits b (length dst.old) (number a src.now) }
+// Internal: the codes written as digits of `bits` bits that fill `out`: packing and unpacking, at any widths.
+pub fn regroup(src: Codes, out: &mut [u8], bits: usize)
+    requires { (bits ≤ 8) × (length out.old < 2 ^ 32) }
+    ensures { out.new ≡ digits bits (length out.old) (number src.entry.bits src.entry.codes.now) }
 {
     let mut acc: u64 = 0;
     let mut have: usize = 0;
-    let mut digits = src.iter();
-    for digit in dst.iter_mut() {
-        while have < b {
+    let mut digits = src.codes.iter();
+    for digit in out.iter_mut() {
+        while have < bits {
             acc += digits.next().copied().unwrap_or(0) as u64 * pow2(have);
-            have += a;
+            have += src.bits;
         }
-        *digit = (acc % pow2(b)) as u8;
-        acc /= pow2(b);
-        have -= b;
+        *digit = (acc % pow2(bits)) as u8;
+        acc /= pow2(bits);
+        have -= bits;
     }
 }
 
@@ -59,18 +67,21 @@ pub fn unpack_codes(payload: &[u8], bits: usize) -> [u8; 64]
     requires { (0 < bits) × (bits ≤ 8) }
     ensures { result ≡ unpacked bits 64 payload.now }
 {
+    let bytes = Codes {
+        codes: payload,
+        bits: 8,
+    };
     let mut codes = [0u8; 64];
-    regroup(payload, 8, &mut codes, bits);
+    regroup(bytes, &mut codes, bits);
     codes
 }
 
 // Internal: the codes packed so that they fill `out`, with unused bits zero.
-pub fn pack_codes(codes: &[u8], bits: usize, out: &mut [u8])
-    requires bits_nonzero { (0 < bits) × (bits ≤ 8) × (length out.old < 2 ^ 32) }
-    requires by_index { (i : ℕ) → get_or codes.now i 0 < 2 ^ bits }
-    ensures { out.new ≡ packed bits (length out.old) codes.now }
+pub fn pack_codes(codes: Codes, out: &mut [u8])
+    requires { length out.old < 2 ^ 32 }
+    ensures { out.new ≡ packed codes.entry.bits (length out.old) codes.entry.codes.now }
 {
-    regroup(codes, bits, out, 8);
+    regroup(codes, out, 8);
 }
 
 // Whether no bit of `payload` from bit `used` on is set.

@@ -8,6 +8,7 @@ ghost use Rattle.format.specs.Gain.{pregained, normalised};
 ghost use Rattle.format.specs.Encode.{trial_to, best_trial, fragment_bytes, encoded_fragment};
 
 use advance::Coder;
+use digits::Codes;
 use format::{Coding, Reached};
 use search::Fragment;
 
@@ -41,14 +42,13 @@ fn codes_from(fragment: Fragment, index: u8) -> [u8; 63]
 }
 
 // Internal: a fragment's bytes that fill `out`: volume, index, and the codes packed into the rest.
-fn put_fragment(out: &mut [u8], volume: u8, index: u8, codes: &[u8], bits: usize)
-    requires bits_nonzero { (0 < bits) × (bits ≤ 8) × (2 ≤ length out.old) × (length out.old < 2 ^ 32) }
-    requires by_index { (i : ℕ) → get_or codes.now i 0 < 2 ^ bits }
-    ensures { out.new ≡ volume ∷ index ∷ packed bits (length out.old - 2) codes.now }
+fn put_fragment(out: &mut [u8], volume: u8, index: u8, codes: Codes)
+    requires { (2 ≤ length out.old) × (length out.old < 2 ^ 32) }
+    ensures { out.new ≡ volume ∷ index ∷ packed codes.entry.bits (length out.old - 2) codes.entry.codes.now }
 {
     out[0] = volume;
     out[1] = index;
-    digits::pack_codes(codes, bits, &mut out[2..]);
+    digits::pack_codes(codes, &mut out[2..]);
 }
 
 // Internal: the bytes of a fragment that is not silent: of the trials from 0..=88 the one with the least sum, the lowest start at
@@ -60,8 +60,11 @@ fn put_best(fragment: Fragment, out: &mut [u8])
     let count = fragment.xs.len();
     let found = fragment.best_start();
     let codes = codes_from(fragment, found.index);
-    let bits = fragment.coder.settings.variant.bits();
-    put_fragment(out, fragment.volume, found.index, &codes[..count], bits);
+    let codes = Codes {
+        codes: &codes[..count],
+        bits: fragment.coder.settings.variant.bits(),
+    };
+    put_fragment(out, fragment.volume, found.index, codes);
 }
 
 // Internal: the fragment of at most 63 samples. It fills `out`. Samples that are all 0 take the short way; others can be silent

@@ -8,12 +8,12 @@ use Rattle.digits.proofs.Regrouping.{Held}
 use Rattle.digits.proofs.regroup.Given as goal
 
 abbrev pub invariant-loop-have : goal.invariant-loop-have
-invariant-loop-have l = Small l.a l.digits.rest.now × Held l.a l.b l.src l.acc l.have l.digit-index l.digits.rest.now
+invariant-loop-have l = Small l.src.bits l.digits.rest.now × Held l.src.bits l.bits l.src.codes.now l.acc l.have l.digit-index l.digits.rest.now
 
 abbrev pub decreases-loop-have : goal.decreases-loop-have
-decreases-loop-have l = l.b - l.have
+decreases-loop-have l = l.bits - l.have
 
 abbrev pub invariant-loop-digit : goal.invariant-loop-digit
 invariant-loop-digit l =
-    (take l.digit-index l.dst ≡ digits l.b l.digit-index (number l.a l.src)) × Small l.a l.digits.rest.now
-    × Held l.a l.b l.src l.acc l.have l.digit-index l.digits.rest.now
+    (take l.digit-index l.out ≡ digits l.bits l.digit-index (number l.src.bits l.src.codes.now)) × Small l.src.bits l.digits.rest.now
+    × Held l.src.bits l.bits l.src.codes.now l.acc l.have l.digit-index l.digits.rest.now

@@ -8,9 +8,9 @@ use Rattle.format.specs.Encode.{Trial, best_trial, fragment_bytes}
 use Rattle.format.proofs.Trials.{best_wrote}
 use Rattle.trial.proofs.Bested.{best_from}
 use Rattle.trial.proofs.put_best.Goals as goal
-use Rattle.trial.proofs.put_best.Goals.{After-bits-bits}
+use Rattle.trial.proofs.put_best.Goals.{After-bits}
 
-coded : (c : After-bits-bits) →
+coded : (c : After-bits) →
     let a = c.args in
     take (length a.fragment.xs.now) c.codes_from-codes.result ≡ (best_trial a.fragment.coder.now.settings a.fragment.volume a.fragment.xs.now).codes
 coded c =
@@ -18,14 +18,14 @@ coded c =
     c.codes_from-codes.ensures
     ∙ ap (λ (t : Trial). t.codes) (best_from a.fragment.coder.now.settings a.fragment.volume a.fragment.xs.now _ c.best_start-found.ensures.index_value)
 
-pub put_fragment-requires-clause-by_index : goal.put_fragment-requires-clause-by_index
-put_fragment-requires-clause-by_index c =
+pub invariant_of-codes-clause-small : goal.invariant_of-codes-clause-small
+invariant_of-codes-clause-small c =
     let a = c.args in
-    rw (c.bits-bits.ensures, coded (goal.at.put_fragment-requires-clause-by_index c).After-bits-bits)
+    rw (c.bits.ensures, coded (goal.at.invariant_of-codes-clause-small c).After-bits)
     (best_wrote a.fragment.coder.now.settings a.fragment.volume a.fragment.xs.now).small
 
 pub returns : goal.returns
 unfolding fragment_bytes
 returns c =
     let n : length c.args.out.now - 2 ≡ payload_bytes c.args.fragment.coder.now.settings.variant = omega (arith, c.requires) in
-    rw (c.put_fragment.ensures, c.bits-bits.ensures, c.best_start-found.ensures.index_value, coded (goal.at.returns c).After-bits-bits, n)
+    rw (c.put_fragment.ensures, c.bits.ensures, c.best_start-found.ensures.index_value, coded (goal.at.returns c).After-bits, n)

@@ -8,6 +8,6 @@ use Rattle.trial.proofs.put_fragment.Goals as goal
 pub returns : goal.returns
 returns c =
     let a = c.args in
-    rest_put a.out.now a.volume a.index c.requires.bits_nonzero.2
+    rest_put a.out.now a.volume a.index c.requires.0
     (c.pack_codes.ensures
-    ∙ ap (λ (n : ℕ). packed a.bits n a.codes.now) (rest_length a.out.now a.volume a.index))
+    ∙ ap (λ (n : ℕ). packed a.codes.bits n a.codes.codes.now) (rest_length a.out.now a.volume a.index))
