@@ -55,6 +55,7 @@ impl Tables {
     }
 
     // A state, as the tables take it.
+    #[tactic(auto, using(crate::proofs::Steps::kept_back, crate::proofs::Steps::held))]
     pub fn keep(self, state: Reached) -> Kept
         ensures { (result.variant ≡ self.coding.variant) × (state_of self.coding.variant result.point ≡ state.state) }
     {
@@ -105,6 +106,7 @@ pub fn step(s: Point, code: u8, differences: &[u32], nexts: &[u16]) -> Point
 }
 
 // Internal: a state, as the tables gave it.
+#[tactic(auto, using(signed::proofs::Laws::back16, signed::proofs::Laws::back32), unfolding(crate::specs::Lookup::state_of))]
 pub fn state_of(variant: Variant, s: Point) -> State
     requires { s.depth ≤ 65535 }
     ensures { result ≡ state_of variant s }
@@ -131,6 +133,7 @@ pub struct Kept {
 
 impl Kept {
     // How far the predictor lies below 32767.
+    #[tactic(auto, using(crate::proofs::Steps::held_depth))]
     pub fn depth(self) -> u16
         ensures { result ≡ depth (state_of self.variant self.point).predictor }
     {
@@ -138,6 +141,7 @@ impl Kept {
     }
 
     // The state, as the tables gave it.
+    #[tactic(auto, using(crate::proofs::Steps::held_depth))]
     pub fn state(self) -> Reached
         ensures { result.state ≡ state_of self.variant self.point }
     {
