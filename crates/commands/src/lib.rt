@@ -106,7 +106,7 @@ fn put_report(stream: &Stream, out: &mut [u8; ROOM]) -> usize
     let mut page = Printer::new(out);
     lines::header_line(&mut page, stream.header);
     for p in 0..stream.fragments() {
-        lines::fragment_line(&mut page, stream, p);
+        lines::fragment_line(&mut page, &stream.place(p));
     }
     page.count()
 }

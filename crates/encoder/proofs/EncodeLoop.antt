@@ -10,9 +10,10 @@ use lib.Seq.{take_at, drop_at, drop-drop, length-take-le}
 use Rattle.lists.specs.Lists.{tabulate, joined}
 use Rattle.digits.proofs.Laws.{part_put}
 use Rattle.lists.proofs.ByIndex.{tabulate_part, length-joined}
-use Rattle.format.specs.Layout.{encoder_version, fragment_size}
-use Rattle.format.specs.Encode.{encoded_fragment, channel, frame_of, fragment_for}
+use Rattle.format.specs.Layout.{encoder_version, fragment_size, size_in, rounded_up, frames, count}
+use Rattle.format.specs.Encode.{encoded_fragment, channel, frame_of, fragment_for, header_written}
 use Rattle.format.proofs.Encoder.{sized}
+use Rattle.format.specs.declared.Header.{Header}
 use Rattle.format.specs.declared.Settings.{Settings}
 use Rattle.encoder.specs.Loops.{put_after}
 
@@ -49,6 +50,20 @@ pub gathered : (pcm : List ℤ) (channels c f : ℕ)
     → frame_of (channel pcm channels c) f ≡ tabulate (λ w. get_or pcm ((f * 63 + w) * channels + c) (pos 0)) (min 63 (length pcm / channels - f * 63))
 unfolding channel
 gathered pcm channels c f = tabulate_part (λ t. get_or pcm (t * channels + c) (pos 0)) (pos 0) (length pcm / channels) (f * 63) 63
+
+-- what the loop reads of the header that is written
+module _ (k : Settings) (pcm : List ℤ) (channels rate : ℕ) (h : Header) (written : h ≡ header_written k pcm channels rate) where
+  pub written_size : size_in h ≡ fragment_size encoder_version k.variant
+  unfolding header_written
+  written_size = ap (λ (x : Header). size_in x) written
+
+  pub written_frames : frames h ≡ rounded_up (length pcm / channels) 63
+  unfolding frames header_written
+  written_frames = ap (λ (x : Header). frames x) written
+
+  pub written_count : (f : ℕ) → count h f ≡ min 63 (length pcm / channels - f * 63)
+  unfolding count header_written
+  written_count f = ap (λ (x : Header). count x f) written
 
 -- ---- the loop
 

@@ -3,13 +3,13 @@
 
 ghost use Rattle.std.specs.Prelude.{◌≡◌, ◌++◌, ◌+◌, ◌-◌, ◌*◌, ◌/◌, ◌<◌, ◌≤◌, pos, length, take, drop, get_or};
 ghost use Rattle.lists.specs.Lists.{tabulate};
-ghost use Rattle.format.specs.Layout.{fragment_size, header_bytes, rounded_up};
-ghost use Rattle.format.specs.Encode.{fragment_for};
+ghost use Rattle.format.specs.Layout.{fragment_size, header_bytes, frames};
+ghost use Rattle.format.specs.Encode.{fragment_for, header_written};
 ghost use Rattle.format.specs.Answers.{AsEncoded};
 ghost use Rattle.encoder.specs.Loops.{put_after};
 
 use advance::Coder;
-use format::{Coding, Error, Header, Settings, Variant};
+use format::{Error, Header, Settings, Variant};
 
 // The 16 bytes of a header.
 fn header_bytes(h: Header) -> [u8; 16]
@@ -60,22 +60,20 @@ fn gather(pcm: &[i16], first: usize, channels: usize, channel: usize, n: usize) 
     r
 }
 
-// Internal: the fragments of an encoding, in file order, behind the 16 bytes of the header. Each part of the output is lent by its
-// place, since a proof doesn't know what `chunks_exact_mut` leaves.
-fn put_fragments(coder: &Coder, pcm: &[i16], channels: usize, out: &mut [u8])
-    requires { (0 < channels) × (channels ≤ 255) × (length pcm.now / channels ≤ 4294967295)
-        × (16 + rounded_up (length pcm.now / channels) 63 * channels * fragment_size 3 coder.now.settings.variant ≤ length out.old) }
-    ensures { out.new ≡ put_after (take 16 out.old) 16 (fragment_for coder.now.settings pcm.now channels) (fragment_size 3 coder.now.settings.variant) out.old (rounded_up (length pcm.now / channels) 63 * channels) }
+// Internal: the fragments of the encoding with this header, in file order, behind the 16 bytes of the header. Each part of the output is
+// lent by its place, since a proof doesn't know what `chunks_exact_mut` leaves.
+fn put_fragments(coder: &Coder, pcm: &[i16], h: Header, out: &mut [u8])
+    requires { (0 < h.channels) × (h ≡ header_written coder.now.settings pcm.now h.channels h.rate)
+        × (16 + frames h * h.channels * fragment_size 3 coder.now.settings.variant ≤ length out.old) }
+    ensures { out.new ≡ put_after (take 16 out.old) 16 (fragment_for coder.now.settings pcm.now h.channels) (fragment_size 3 coder.now.settings.variant) out.old (frames h * h.channels) }
 {
-    let coding = Coding::written(coder.settings.variant);
-    let size = coding.fragment_size();
-    let total = pcm.len() / channels;
-    let whole = Variant::FRAGMENT_SAMPLES;
-    let places = (total + (whole - 1)) / whole * channels;
-    for p in 0..places {
+    let channels = h.channels as usize;
+    let size = h.coding().fragment_size();
+    for p in 0..layout::fragment_count(h) {
+        let f = p / channels;
         let c = p % channels;
-        let first = p / channels * whole;
-        let n = whole.min(total.saturating_sub(first));
+        let first = f * Variant::FRAGMENT_SAMPLES;
+        let n = layout::count_at(h, f);
         let s = gather(pcm, first, channels, c, n);
         let at = layout::HEADER_SIZE + p * size;
         let end = at + size;
@@ -84,7 +82,8 @@ fn put_fragments(coder: &Coder, pcm: &[i16], channels: usize, out: &mut [u8])
 }
 
 // Encodes interleaved samples at the caller's settings into `out`, as a stream of version 3, and answers its length. A refusal leaves the
-// output as it was.
+// output as it was. Samples, channels and rate stay three parameters here, in the WAV writer and in the calls for C, as in the reference
+// Rust: a struct would be made and taken apart at each.
 pub fn encode(
     settings: Settings,
     pcm: &[i16],
@@ -119,7 +118,7 @@ pub fn encode(
         return Err(Error::OutputTooShort(needed));
     }
     put_header(out, h);
-    put_fragments(&Coder::new(settings), pcm, count, out);
+    put_fragments(&Coder::new(settings), pcm, h, out);
     Ok(needed)
 }
 

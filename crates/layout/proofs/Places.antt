@@ -7,10 +7,10 @@ use mathlib.Core.Bool.{cond}
 use borrow.Author.Tests.{lt-ltb, le-ltb}
 use lib.Dec.{ltb}
 use mathlib.Core.List.{List}
-use lib.ListN.{length, take, drop}
+use lib.ListN.{take, drop}
 use mathlib.Core.Path.{◌≡◌, ap}
-use Rattle.format.specs.Layout.{rounded_up, whole_frame, frames, count, size_in, stream_length, fragment_at_place}
-use Rattle.format.proofs.Sizes.{frame_in, payload_few, place_length}
+use Rattle.format.specs.Layout.{rounded_up, whole_frame, frames, count, size_in, fragment_at_place}
+use Rattle.format.proofs.Sizes.{frame_in}
 use Rattle.format.specs.declared.Header.{Header}
 
 -- ---- fragments
@@ -19,14 +19,6 @@ use Rattle.format.specs.declared.Header.{Header}
 pub part_place : (h : Header) (d : List ℕ) (p : ℕ) → take (16 + p * size_in h + size_in h - (16 + p * size_in h)) (drop (16 + p * size_in h) d) ≡ fragment_at_place h d p
 unfolding fragment_at_place
 part_place h d p = rw (add-sub_cancel_left (16 + p * size_in h) (size_in h))
-
--- a fragment ends in its stream
-pub place_inside : (h : Header) (p : ℕ) → p < frames h * h.channels → 16 + p * size_in h + size_in h ≤ stream_length h
-place_inside h p l = omega (arith, mul-le-mul_right (size_in h) l)
-
--- it holds the bytes before its codes
-pub place_prefix : (h : Header) (d : List ℕ) (p : ℕ) → length d ≡ stream_length h → p < frames h * h.channels → 2 ≤ length (fragment_at_place h d p)
-place_prefix h d p e l = rw (place_length h d p e l) (omega (arith, payload_few h.variant))
 
 -- the frame of place p
 pub frame_of_lem : (p frames channels : ℕ) → 0 < channels → p < frames * channels → p / channels < frames

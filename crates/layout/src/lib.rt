@@ -10,6 +10,7 @@ use format::{Coded, Header};
 pub const HEADER_SIZE: usize = 16;
 
 // How many frames a stream has. None is empty.
+#[tactic(auto, using(format::proofs::Sizes::frames_few), unfolding(format::specs::Layout::frames))]
 fn frame_count(h: Header) -> usize
     ensures { (result ≡ frames h) × (result ≤ h.samples) }
 {
@@ -17,37 +18,21 @@ fn frame_count(h: Header) -> usize
     (h.samples as usize + (whole - 1)) / whole
 }
 
-// Internal: samples per channel of frame `f`.
-fn count_of(h: Header, f: usize) -> usize
-    requires { f < frames h }
-    ensures { (result ≡ count h f) × (result ≤ 64) }
-{
-    let whole = h.coding().frame_samples();
-    let left = h.samples as usize - f * whole;
-    left.min(whole)
-}
-
 // Samples per channel of frame `f`, 0 past the last frame.
+#[tactic(auto, unfolding(format::specs::Layout::count))]
 pub fn count_at(h: Header, f: usize) -> usize
     ensures { (result ≡ count h f) × (result ≤ 64) }
 {
-    if f < frame_count(h) {
-        count_of(h, f)
-    } else {
-        0
-    }
+    let whole = h.coding().frame_samples();
+    let left = (h.samples as usize).saturating_sub(f.saturating_mul(whole));
+    left.min(whole)
 }
 
 // Samples per channel of the last frame, 0 where there is none.
 pub fn last_count(h: Header) -> usize
     ensures { (result ≡ count h (frames h - 1)) × (result ≤ 64) }
 {
-    let frames = frame_count(h);
-    if frames == 0 {
-        0
-    } else {
-        count_of(h, frames - 1)
-    }
+    count_at(h, frame_count(h).saturating_sub(1))
 }
 
 // How many fragments a stream has.
@@ -64,7 +49,9 @@ pub fn stream_length(h: Header) -> usize
     HEADER_SIZE + fragment_count(h) * h.coding().fragment_size()
 }
 
-// Whether the version has this channel count.
+// Whether the version has this channel count. No call of `wav_format::one_or_two`: that is the rule of WAV's channel field, this one
+// SQV4's, where the version may matter.
+#[tactic(auto, unfolding(format::specs::Layout::channels_fit))]
 pub fn channels_fit(version: u8, channels: u8) -> bool
     ensures { result ≡ channels_fit version channels }
 {
@@ -121,6 +108,7 @@ impl<'a> Place<'a> {
     }
 
     // The fragment.
+    #[tactic(auto, using(crate::proofs::Places::part_place))]
     pub fn fragment(&self) -> Coded<'a>
         ensures { result.bytes.now ≡ fragment_at_place self.now.stream.header self.now.stream.file.now self.now.p }
     {

@@ -6,7 +6,6 @@ use lib.ListN.{length}
 use Rattle.format.proofs.Sizes.{channels_few}
 use Rattle.format.specs.Answers.{number_of, values_of}
 use Rattle.format.specs.Encode.{header_written, too_many, encode_call}
-use Rattle.format.specs.Layout.{frames}
 use Rattle.format.specs.declared.Error.TheVariants as E
 use Rattle.outcome.proofs.Flags.{via}
 use Rattle.outcome.proofs.Laws.{checks}
@@ -42,11 +41,11 @@ unfolding header_written
 returns-then-out-needed c = as_refused _ _ _ _ _ (E.OutputTooShort _) (too_short c.args.settings _ _ _ _ (via _ _ _ c.channels_fit.ensures c.if-not-channels_fit.false) c.if-rate-eq0.false c.if-pcm-count-ne0.false (omega (arith, c.in-Ok.ensures.0)) _ (rw c.in-Ok.ensures.1 at c.stream_length-needed.ensures) c.if-out-needed.true)
 
 pub put_fragments-requires : goal.put_fragments-requires
-unfolding frames
+unfolding header_written
 put_fragments-requires c =
     let fit = channels_few _ _ (via _ _ _ c.channels_fit.ensures c.if-not-channels_fit.false) in
-    (fit.0, omega arith, omega (arith, c.in-Ok.ensures.0), rw c.new.ensures (rw c.in-Ok.ensures.1 at (headed_length _ c.args.out.now _ _ c.put_header.ensures c.stream_length-needed.ensures c.if-out-needed.false)))
+    (fit.0, rw (c.new.ensures, c.in-Ok.ensures.1) refl, rw c.new.ensures (headed_length _ c.args.out.now _ _ c.put_header.ensures c.stream_length-needed.ensures c.if-out-needed.false))
 
 pub returns : goal.returns
-unfolding header_written frames
-returns c = as_written _ _ _ _ _ _ _ _ _ (long_enough c.args.settings _ _ _ _ (via _ _ _ c.channels_fit.ensures c.if-not-channels_fit.false) c.if-rate-eq0.false c.if-pcm-count-ne0.false (omega (arith, c.in-Ok.ensures.0)) _ (rw c.in-Ok.ensures.1 at c.stream_length-needed.ensures) c.if-out-needed.false) (rw c.in-Ok.ensures.1 refl) c.stream_length-needed.ensures c.put_header.ensures (rw c.new.ensures at c.put_fragments.ensures)
+unfolding header_written
+returns c = as_written _ _ _ _ _ _ _ _ _ (long_enough c.args.settings _ _ _ _ (via _ _ _ c.channels_fit.ensures c.if-not-channels_fit.false) c.if-rate-eq0.false c.if-pcm-count-ne0.false (omega (arith, c.in-Ok.ensures.0)) _ (rw c.in-Ok.ensures.1 at c.stream_length-needed.ensures) c.if-out-needed.false) (rw c.in-Ok.ensures.1 refl) c.stream_length-needed.ensures c.put_header.ensures (rw (c.new.ensures, c.in-Ok.ensures.1) at c.put_fragments.ensures)

@@ -15,7 +15,7 @@ use Rattle.encoder.proofs.gather.Goals as goal
 use Rattle.encoder.proofs.gather.Goals.{In-loop-w}
 
 -- the place that a turn reads
-spot : (c : In-loop-w) → Place c.args.first c.loop-w.w c.args.channels c.args.channel (length c.args.pcm.now)
+spot : (c : In-loop-w) → Sample c.args.first c.loop-w.w c.args.channels c.args.channel (length c.args.pcm.now)
 spot c = place_in c.args.first c.loop-w.w c.args.n c.args.channels c.args.channel (length c.args.pcm.now) (omega (arith, c.loop-w.invariant.0)) (search rules) (search rules)
 
 pub loop-w-init : goal.loop-w-init

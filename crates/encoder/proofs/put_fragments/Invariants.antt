@@ -3,4 +3,4 @@ use Rattle.encoder.proofs.EncodeLoop.{Writing}
 use Rattle.encoder.proofs.put_fragments.Given as goal
 
 abbrev pub invariant-loop-p : goal.invariant-loop-p
-invariant-loop-p l = Writing l.coder.settings l.pcm l.channels l.initial.out l.p l.out
+invariant-loop-p l = Writing l.coder.settings l.pcm l.h.channels l.initial.out l.p l.out
