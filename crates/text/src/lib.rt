@@ -50,6 +50,7 @@ impl<'a> Printer<'a> {
     }
 
     // A decimal number.
+    #[tactic(auto, using(crate::proofs::Laws::spelled))]
     pub fn number(&mut self, n: u64)
         ensures { Printed self.old (decimal n) self.new }
     {
