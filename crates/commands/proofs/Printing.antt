@@ -75,9 +75,9 @@ module _ {out output : List ℕ} where
       let values : values_of r ≡ ws = cc in
       rw (← number, ← values, ← g.output_left) p
 
--- the count of a text in an output that has kept its length
-pub counts : {out after text : List ℕ} {next : ℕ} → Put out 0 text after next → length after ≡ length out → IsPrefixLen next after
-counts {after = after} {next = next} p e = let ends : next ≤ length after = put_ends p e in (ends, sym (length-take-le next after ends))
+-- the text, and its count in an output that has kept its length
+pub counted : {out after text : List ℕ} {next : ℕ} → Put out 0 text after next → length after ≡ length out → IsPrefixLen next after × Put out 0 text after next
+counted {after = after} {next = next} p e = let ends : next ≤ length after = put_ends p e in ((ends, sym (length-take-le next after ends)), p)
 
 -- ---- the fragments' lines
 

@@ -1,15 +1,17 @@
 // What the two programs print: the converter's stream, the inspector's report, and the line of a refusal.
 #![tactic(auto)]
 
-ghost use Rattle.std.specs.Prelude.{◌≡◌, ◌≤◌, List, ℕ, length};
-ghost use Rattle.outcome.specs.Outcome.{Outcome};
+ghost use Rattle.std.specs.Prelude.{◌≡◌, ◌≤◌, ◌<◌, List, [], ℕ, length, take, IfSome, OnOk};
+ghost use Rattle.std.specs.Io.KnownBytes.{Appends};
+ghost use Rattle.outcome.specs.Outcome.{Outcome, refused};
 ghost use Rattle.io.specs.Counts.{IsPrefixLen};
 ghost use Rattle.text.specs.Text.{Put};
 ghost use Rattle.lines.specs.Lines.{refusal_line};
-ghost use Rattle.commands.specs.Refused as refused;
+ghost use Rattle.commands.specs.Refused as refusals;
 ghost use Rattle.commands.specs.Refused.{Gives};
 ghost use Rattle.commands.specs.Commands.{printed, converted, report, reported};
 
+use arrayvec::ArrayVec;
 use format::{Error, Settings, Variant};
 use layout::Stream;
 use outcome::{Refusal, Values};
@@ -27,6 +29,7 @@ pub const READ: usize = MOST + 1;
 const SAMPLES: usize = MOST / 2;
 
 // Room for the longest answer: a header's line and the lines of 2,620 fragments, of at most 128 bytes each. The streams are shorter.
+// There is no heap, so the output is lent, and how many bytes of it are the answer comes back beside it.
 pub const ROOM: usize = 335488;
 
 // Why a program refuses: the size of its input, or what the codec or WAV reading refuses.
@@ -38,9 +41,9 @@ pub enum Refused {
 }
 
 impl Refusal for Refused {
-    ghost number_of = { refused.number_of };
+    ghost number_of = { refusals.number_of };
 
-    ghost values_of = { refused.values_of };
+    ghost values_of = { refusals.values_of };
 
     fn number(self) -> u8 {
         match self {
@@ -81,21 +84,11 @@ impl From<WaveError> for Refused {
 
 // The line of a refusal, at the front of the output. The answer is how many bytes there are.
 fn put_refusal(refusal: Refused, out: &mut [u8; ROOM]) -> usize
-    ensures { Put out.old 0 (refusal_line (refused.number_of refusal) (refused.values_of refusal)) out.new result }
+    ensures { Put out.old 0 (refusal_line (refusals.number_of refusal) (refusals.values_of refusal)) out.new result }
 {
     let mut page = Printer::new(out);
     lines::refusal_line(&mut page, refusal);
     page.count()
-}
-
-// What is printed for an answer: the result, which is at the front of the output already, or the line of a refusal.
-fn put_answer(answer: Result<usize, Refused>, out: &mut [u8; ROOM]) -> usize
-    ensures { (o : Outcome (List ℕ)) (before : List ℕ) → Gives o before answer out.old → Put before 0 (printed o) out.new result }
-{
-    match answer {
-        Ok(count) => count,
-        Err(refusal) => put_refusal(refusal, out),
-    }
 }
 
 // Internal: the report on a stream, at the front of the output.
@@ -113,11 +106,9 @@ fn put_report(stream: &Stream, out: &mut [u8; ROOM]) -> usize
 
 // The report on the stream that the input is, at the front of the output.
 fn inspect(input: &[u8], out: &mut [u8; ROOM]) -> Result<usize, Refused>
+    requires { length input.now ≤ 65536 }
     ensures { Gives (reported input.now) out.old result out.new }
 {
-    if MOST < input.len() {
-        return Err(Refused::Size);
-    }
     let header = inspect::inspect(input)?;
     Ok(put_report(
         &Stream {
@@ -130,14 +121,12 @@ fn inspect(input: &[u8], out: &mut [u8; ROOM]) -> Result<usize, Refused>
 
 // The stream that the input's variant byte, gain byte and WAV give, at the front of the output.
 fn encode(input: &[u8], out: &mut [u8; ROOM]) -> Result<usize, Refused>
+    requires { length input.now ≤ 65536 }
     ensures { Gives (converted input.now) out.old result out.new }
 {
     let [variant, gain, file @ ..] = input else {
         return Err(Refused::Size);
     };
-    if MOST < input.len() {
-        return Err(Refused::Size);
-    }
     let settings = Settings {
         variant: Variant::try_from(*variant)?,
         gain: *gain,
@@ -149,14 +138,34 @@ fn encode(input: &[u8], out: &mut [u8; ROOM]) -> Result<usize, Refused>
     Ok(encoder::encode(settings, &pcm[..count], channels, wave.rate, out)?)
 }
 
+// What a command prints: the result that it gives for an input of at most MOST bytes, which is at the front of the output then, or the line
+// of a refusal. The answer is how many bytes there are.
+fn print<F: Fn(&[u8], &mut [u8; ROOM]) -> Result<usize, Refused>>(
+    input: &[u8],
+    out: &mut [u8; ROOM],
+    command: F,
+) -> usize
+    requires { (lent : _) → length input.now ≤ 65536 → F.pre command input lent }
+    ensures { (o : Outcome (List ℕ)) → (65536 < length input.now → refused 38 [] ≡ o)
+        → ((lent : _) (answer : _) (after : _) → F.post command input.entry lent answer after → Gives o lent.now answer after.now)
+        → IsPrefixLen result out.new × Put out.old 0 (printed o) out.new result }
+{
+    if MOST < input.len() {
+        return put_refusal(Refused::Size, out);
+    }
+    match command(input, out) {
+        Ok(count) => count,
+        Err(refusal) => put_refusal(refusal, out),
+    }
+}
+
 // The converter: the stream that the variant byte, the gain byte and the WAV of the input give, or a refusal's line, at the front of the
 // output. The answer is how many bytes there are.
 pub fn convert(input: &[u8], out: &mut [u8; ROOM]) -> usize
     ensures prefix_len { IsPrefixLen result out.new }
     ensures put { Put out.old 0 (printed (converted input.now)) out.new result }
 {
-    let answer = encode(input, out);
-    put_answer(answer, out)
+    print(input, out, encode)
 }
 
 // The inspector: the report on the stream that the input is, or a refusal's line, at the front of the output. The answer is how many bytes
@@ -165,23 +174,25 @@ pub fn report(input: &[u8], out: &mut [u8; ROOM]) -> usize
     ensures prefix_len { IsPrefixLen result out.new }
     ensures put { Put out.old 0 (printed (reported input.now)) out.new result }
 {
-    let answer = inspect(input, out);
-    put_answer(answer, out)
+    print(input, out, inspect)
 }
 
-// Internal: a program. It reads no more than it takes and one byte, and writes what the command prints of that.
-pub fn run<R: Read + Drop, W: Write + Drop, F: Fn(&[u8], &mut [u8; ROOM]) -> usize>(
+// Internal: a program. It reads no more than it takes and one byte, and writes what the command prints of that: where what the source has
+// left and what the sink holds are known, the contract says so. Of the standard streams they are not: tests/command tries those.
+pub fn run<R: Read + Drop, W: Write, F: Fn(&[u8], &mut [u8; ROOM]) -> usize>(
     source: R,
-    mut sink: W,
+    sink: &mut W,
     command: F,
 ) -> io::Result<()>
     requires callable { F.IsAlwaysCallable command }
     requires prints { (input : _) (out : _) (count : _) (after : _) → F.post command input out count after → IsPrefixLen count after.now }
+    ensures { OnOk result ((input : _) × (out : _) × (count : _) × (after : _) × F.post command input out count after
+        × (length input.now ≤ READ) × IfSome (R.remaining source) (λ bytes. input.now ≡ take READ bytes)
+        × Appends (W.contents sink.old) (W.contents sink.new) (take count after.now)) }
 {
-    let mut input = [0u8; READ];
-    let read = io::copy(&mut source.take(READ as u64), &mut &mut input[..])?;
-    let size = read.min(READ as u64) as usize;
+    let mut input = ArrayVec::<u8, READ>::new();
+    io::copy(&mut source.take(READ as u64), &mut input)?;
     let mut out = [0u8; ROOM];
-    let count = command(&input[..size], &mut out);
+    let count = command(input.as_slice(), &mut out);
     sink.write_all(&out[..count])
 }

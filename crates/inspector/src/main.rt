@@ -5,5 +5,5 @@
 use std::io;
 
 fn main(rt: HostRuntime) -> io::Result<()> {
-    commands::run(rt.stdin(), rt.stdout(), commands::report)
+    commands::run(rt.stdin(), &mut rt.stdout(), commands::report)
 }

@@ -1,8 +1,9 @@
 -- `commands::convert` meets its contract. Assumes nothing.
-use native.Mathlib.Omega.{arith}
-use Rattle.commands.proofs.Printing.{counts}
+use Rattle.commands.proofs.Printing.{long_refused}
 use Rattle.commands.specs.Commands.{converted}
 use Rattle.commands.proofs.convert.Goals as goal
 
-pub returns-clause-prefix_len : goal.returns-clause-prefix_len
-returns-clause-prefix_len c = counts (c.put_answer.ensures (converted c.args.input.now) c.args.out.now c.encode-answer.ensures) (omega arith)
+pub returns : goal.returns
+returns c =
+    let p = c.print.ensures (converted c.args.input.now) (long_refused c.args.input.now) (λ lent answer after given. given) in
+    record { prefix_len = p.0; put = p.1 }

@@ -16,21 +16,18 @@ use Rattle.commands.proofs.encode.Goals.{In_ok-count}
 pub returns-in_default : goal.returns-in_default
 returns-in_default c = gives_refusal Size (printing.short_refused _ c.in_default.len_below)
 
-pub returns-then-input-gt-MOST : goal.returns-then-input-gt-MOST
-returns-then-input-gt-MOST c = gives_refusal Size (printing.long_refused _ c.if-input-gt-MOST.true)
-
 pub returns-in_err-try_from : goal.returns-in_err-try_from
 returns-in_err-try_from c =
-    gives_error _ _ c.from_residual.ensures.1 (printing.variant_refused _ c.in-len2-up.len_at_least c.if-input-gt-MOST.false c.in_err-try_from.ensures)
+    gives_error _ _ c.from_residual.ensures.1 (printing.variant_refused _ c.in-len2-up.len_at_least c.requires c.in_err-try_from.ensures)
 
 pub returns-in_err-wave : goal.returns-in_err-wave
 returns-in_err-wave c =
     gives_error _ _ c.from_residual-in_err-wave.ensures.1
-    (printing.wave_refused _ c.in-len2-up.len_at_least c.if-input-gt-MOST.false _ c.in_ok-try_from.ensures c.in_err-wave.ensures)
+    (printing.wave_refused _ c.in-len2-up.len_at_least c.requires _ c.in_ok-try_from.ensures c.in_err-wave.ensures)
 
 pub returns-in_err-count : goal.returns-in_err-count
 returns-in_err-count c =
-    let room = printing.part_few _ c.in-len2-up.len_at_least c.if-input-gt-MOST.false _ c.in_ok-try_from.ensures in
+    let room = printing.part_few _ c.in-len2-up.len_at_least c.requires _ c.in_ok-try_from.ensures in
     not_loaded _ _ _ (rw c.wave_samples.ensures room) _ (rw c.in_err-count.was at c.load_samples.ensures)
 
 pub overflow_cast-channels : goal.overflow_cast-channels
@@ -39,7 +36,7 @@ overflow_cast-channels c = omega (arith, one_or_two_is _ (plain _ _ (sym c.in_ok
 -- the samples that are loaded
 all : (c : In_ok-count) → (c.in_ok-count.count ≡ length c.wave_samples.result.now / 2) × (take c.in_ok-count.count c.load_samples.new.out ≡ samples_of c.wave_samples.result.now)
 all c =
-    let room = printing.part_few _ c.in-len2-up.len_at_least c.if-input-gt-MOST.false _ c.in_ok-try_from.ensures in
+    let room = printing.part_few _ c.in-len2-up.len_at_least c.requires _ c.in_ok-try_from.ensures in
     loaded _ _ _ (rw c.wave_samples.ensures room) _ (rw c.in_ok-count.was at c.load_samples.ensures)
 
 as_many : (c : In_ok-count) → c.in_ok-count.count ≡ length (take c.in_ok-count.count c.load_samples.new.out)
@@ -54,11 +51,11 @@ slice_bounds-encode-end c = as_many (goal.at.slice_bounds-encode-end c).In_ok-co
 pub returns-in_err-encode : goal.returns-in_err-encode
 returns-in_err-encode c =
     let s = all (goal.at.returns-in_err-encode c).In_ok-count in
-    let whole = printing.wave_encoded _ c.in-len2-up.len_at_least c.if-input-gt-MOST.false _ c.in_ok-try_from.ensures _ c.in_ok-wave.ensures (length c.args.out.now) (omega arith) in
+    let whole = printing.wave_encoded _ c.in-len2-up.len_at_least c.requires _ c.in_ok-try_from.ensures _ c.in_ok-wave.ensures (length c.args.out.now) (omega arith) in
     gives_unencoded whole _ _ (rw (s.1, c.wave_samples.ensures, c.in_err-encode.was) at c.encode.ensures) c.from_residual-in_err-encode.ensures.1
 
 pub returns : goal.returns
 returns c =
     let s = all (goal.at.returns c).In_ok-count in
-    let whole = printing.wave_encoded _ c.in-len2-up.len_at_least c.if-input-gt-MOST.false _ c.in_ok-try_from.ensures _ c.in_ok-wave.ensures (length c.args.out.now) (omega arith) in
+    let whole = printing.wave_encoded _ c.in-len2-up.len_at_least c.requires _ c.in_ok-try_from.ensures _ c.in_ok-wave.ensures (length c.args.out.now) (omega arith) in
     gives_encoded whole (rw (s.1, c.wave_samples.ensures, c.in_ok-encode.was) at c.encode.ensures)

@@ -2,15 +2,11 @@
 use mathlib.Core.Path.{sym}
 use Rattle.format.proofs.Accepted.{accepted}
 use Rattle.format.proofs.Sizes.{channels_few}
-use Rattle.commands.proofs.Printing.{gives_refusal, gives_error, gives_text, stream_too_long, stream_refused, stream_reported}
-use Rattle.commands.specs.declared.Refused.TheVariants.{Size}
+use Rattle.commands.proofs.Printing.{gives_error, gives_text, stream_refused, stream_reported}
 use Rattle.commands.proofs.inspect.Goals as goal
 
-pub returns-then-input-gt-MOST : goal.returns-then-input-gt-MOST
-returns-then-input-gt-MOST c = gives_refusal Size (stream_too_long _ c.if-input-gt-MOST.true)
-
 pub returns-in_err-header : goal.returns-in_err-header
-returns-in_err-header c = gives_error _ _ c.from_residual.ensures.1 (stream_refused _ c.if-input-gt-MOST.false c.in_err-header.ensures)
+returns-in_err-header c = gives_error _ _ c.from_residual.ensures.1 (stream_refused _ c.requires c.in_err-header.ensures)
 
 pub invariant_of-put_report : goal.invariant_of-put_report
 invariant_of-put_report c =
@@ -18,4 +14,4 @@ invariant_of-put_report c =
     record { channels = (channels_few _ _ a.channels).0; whole = a.size }
 
 pub returns : goal.returns
-returns c = gives_text (stream_reported _ c.if-input-gt-MOST.false c.in_ok-header.ensures) c.put_report.ensures
+returns c = gives_text (stream_reported _ c.requires c.in_ok-header.ensures) c.put_report.ensures
