@@ -13,6 +13,7 @@ use outcome::{Refusal, Values};
 use text::Printer;
 
 // The numbers that a refusal returns, each after a space.
+#[tactic(auto, using(text::proofs::Laws::printed_none, text::proofs::Laws::then_printed, crate::proofs::Lines::no_values, crate::proofs::Lines::one_value, crate::proofs::Lines::two_values), unfolding(crate::specs::Lines::spaced_values, text::specs::Text::letters))]
 fn values(page: &mut Printer, values: Values)
     ensures prints { Printed page.old (spaced_values (listed values)) page.new }
     ensures short { length (spaced_values (listed values)) ≤ 42 }
@@ -28,6 +29,7 @@ fn values(page: &mut Printer, values: Values)
 }
 
 // The line of a refusal.
+#[tactic(auto, using(crate::proofs::Lines::refusal_few))]
 pub fn refusal_line<E: Refusal>(page: &mut Printer, refusal: E)
     ensures prints { Printed page.old (refusal_line (E.number_of refusal) (E.values_of refusal)) page.new }
     ensures short { length (refusal_line (E.number_of refusal) (E.values_of refusal)) ≤ 128 }
@@ -50,6 +52,7 @@ fn name(variant: Variant) -> &'static [u8]
 }
 
 // The header's line.
+#[tactic(auto, using(crate::proofs::Lines::header_few))]
 pub fn header_line(page: &mut Printer, h: Header)
     ensures prints { Printed page.old (header_line h) page.new }
     ensures short { length (header_line h) ≤ 128 }
@@ -76,6 +79,7 @@ fn index_field(page: &mut Printer, coding: Coding, fragment: &Coded)
 }
 
 // Internal: the line of the fragment at a place of a stream.
+#[tactic(auto, using(crate::proofs::Lines::fragment_few))]
 pub fn fragment_line(page: &mut Printer, place: &Place)
     ensures prints { Printed page.old (fragment_line place.now.stream.header place.now.stream.file.now place.now.p) page.new }
     ensures short { length (fragment_line place.now.stream.header place.now.stream.file.now place.now.p) ≤ 128 }

@@ -1,8 +1,7 @@
 -- `lines::fragment_line` meets its contract. Assumes nothing.
-use native.Mathlib.Omega.{arith}
 use Rattle.text.proofs.Laws.{then_printed}
 use Rattle.text.specs.Text.{letters}
-use Rattle.lines.proofs.Lines.{fragment_pieces, fragment_few}
+use Rattle.lines.proofs.Lines.{fragment_pieces}
 use Rattle.lines.proofs.fragment_line.Goals as goal
 
 pub returns-clause-prints : goal.returns-clause-prints
@@ -12,7 +11,3 @@ returns-clause-prints c =
     let sizes = then_printed (then_printed place (rw c.samples.ensures.0 at c.field-2.ensures)) (rw (c.volume.ensures, c.fragment-fragment.ensures) at c.field-3.ensures) in
     rw (← (fragment_pieces _ _ _))
     (then_printed (then_printed (then_printed sizes c.word.ensures) (rw (c.coding.ensures, c.fragment-fragment.ensures) at c.index_field.ensures.prints)) c.word-2.ensures)
-
-pub returns-clause-short : goal.returns-clause-short
-returns-clause-short c =
-    fragment_few _ _ _ (omega (arith, c.frame.ensures)) (omega (arith, c.channel.ensures)) (omega (arith, c.samples.ensures)) (rw (← c.fragment-fragment.ensures) (omega (arith, c.volume.ensures))) (rw (c.coding.ensures, c.fragment-fragment.ensures) at c.index_field.ensures.short)

@@ -1,8 +1,7 @@
 -- `lines::header_line` meets its contract. Assumes nothing.
-use native.Mathlib.Omega.{arith}
 use Rattle.text.proofs.Laws.{then_printed}
 use Rattle.text.specs.Text.{letters}
-use Rattle.lines.proofs.Lines.{header_pieces, header_few}
+use Rattle.lines.proofs.Lines.{header_pieces}
 use Rattle.lines.proofs.header_line.Goals as goal
 
 pub returns-clause-prints : goal.returns-clause-prints
@@ -11,6 +10,3 @@ returns-clause-prints c =
     let named = then_printed (then_printed c.field.ensures c.word.ensures) (rw c.name.ensures at c.word-2.ensures) in
     rw (← (header_pieces _))
     (then_printed (then_printed (then_printed (then_printed named c.field-2.ensures) c.field-3.ensures) c.field-4.ensures) c.word-3.ensures)
-
-pub returns-clause-short : goal.returns-clause-short
-returns-clause-short c = header_few _ (omega arith) (omega arith) (omega arith) (omega arith)

@@ -1,14 +1,10 @@
 -- `lines::refusal_line` meets its contract. Assumes nothing.
-use native.Mathlib.Omega.{arith}
 use Rattle.text.proofs.Laws.{then_printed}
 use Rattle.text.specs.Text.{letters}
-use Rattle.lines.proofs.Lines.{refusal_pieces, refusal_few}
+use Rattle.lines.proofs.Lines.{refusal_pieces}
 use Rattle.lines.proofs.refusal_line.Goals as goal
 
 pub returns-clause-prints : goal.returns-clause-prints
 unfolding letters
 returns-clause-prints g c =
     rw (← c.number.ensures, ← c.values.ensures, ← (refusal_pieces _ _)) (then_printed (then_printed c.field.ensures c.values-2.ensures.prints) c.word.ensures)
-
-pub returns-clause-short : goal.returns-clause-short
-returns-clause-short g c = rw (← c.number.ensures, ← c.values.ensures) (refusal_few _ _ (omega arith) c.values-2.ensures.short)
