@@ -1,12 +1,14 @@
 -- The H step on raised numbers: what the code's bits say, what is taken off, and where the predictor lands. Assumes nothing.
-use Rattle.std.proofs.Common.{◌≡◌, ℕ, ◌+◌, ◌-◌, ◌/◌, ◌<◌, ◌≤◌, min, Bool, true, false, cond, ltb, leb, get_or, ℤ, pos, negsuc, ◌+ℤ◌, refl, ◌∙◌, arith, le-ltb, lt-ltb}
+use Rattle.std.proofs.Common.{◌≡◌, ℕ, ◌+◌, ◌-◌, ◌/◌, ◌<◌, ◌≤◌, min, Bool, true, false, cond, ltb, leb, get_or, ℤ, pos, negsuc, ◌+ℤ◌, ◌-ℤ◌, ◌^◌, refl, ◌∙◌, arith, le-ltb, lt-ltb}
 use native.Mathlib.Decide.{dec_lt}
 use lib.Signed.{mag}
 use Rattle.std.proofs.lemmas.Int.{ints, clamps}
 use Rattle.std.proofs.lemmas.Bool.Decides.{nat_tests}
 use Rattle.signed.specs.Signed.{with_sign, clamp16, clamp_to, raised}
-use Rattle.signed.proofs.Laws.{clamp_to_is, clamp_fits}
-use Rattle.signed.proofs.Raised.{raised-same, raised_less, raised-apart, raised_down, raised_up}
+use mir.Syntax.{w32}
+use mir.Val.{to_z, of_z}
+use Rattle.signed.proofs.Laws.{back32, clamp_to_is, clamp_fits}
+use Rattle.signed.proofs.Raised.{lower_is, raised-same, raised_less, raised-apart, raised_down, raised_up}
 use Rattle.format.specs.Tables.{h_index_adjust}
 use Rattle.format.specs.Step.{step_at, bit_set, part, h_size, difference, unclamped_predictor, unclamped_index, stepped}
 use Rattle.format.specs.Decode.{InRange}
@@ -55,6 +57,12 @@ taken t d = grind (arith, nat_tests)
 pub index_moved : (up : Bool) (index by : ℕ) → index ≤ 88 → clamp_to 88 (pos index +ℤ cond up (pos by) (negsuc 0)) ≡ cond up (min (index + by) 88) (index - 1)
 index_moved true index by h = omega (arith, ints, clamps, clamp_to_is 88 (pos index +ℤ pos by))
 index_moved false index by h = omega (arith, ints, clamps, clamp_to_is 88 (pos index +ℤ negsuc 0))
+
+-- ---- a number that was lowered, read back
+
+pub lowered : {u : ℕ} {z : ℤ} → u ≤ 65535 → mag z < 2 ^ 31 → z ≡ pos u -ℤ pos 32768
+    → (raised (to_z w32 (of_z w32 z)) ≡ u) × (mag (to_z w32 (of_z w32 z)) ≤ 32767)
+lowered h m e = rw (back32 _ m, e) (lower_is _ h)
 
 -- ---- the step
 

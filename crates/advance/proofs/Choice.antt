@@ -18,7 +18,7 @@ use Rattle.adpcm.proofs.Bounds.{difference_three, adjustment_three, step_low}
 use Rattle.advance.specs.declared.Sizes.{Sizes}
 use Rattle.advance.specs.Advance.{size_at, Sized, Landed}
 use Rattle.advance.proofs.Cascade.{index_moved}
-use Rattle.advance.proofs.Nearest.{apart, Chosen, chosen, Lowest, cut, rises, differ, first_only, up_near, up_far, down_near, down_far}
+use Rattle.advance.proofs.Nearest.{apart, Picked, Chosen, chosen, Lowest, cut, rises, differ, first_only, up_near, up_far, down_near, down_far}
 
 -- ---- the four sizes grow
 
@@ -176,13 +176,11 @@ module _ (variant : Variant) (s : State) (input : ℤ) (three : bits variant ≡
         go (yes l) = omega (arith, ed l)
         go (no l) = let h : p ≤ x = omega arith in omega (arith, eu h)
 
-    -- what the code's tests choose
-    pub l_chosen : (m v : ℕ) → m < 4 → v ≡ cut size room m → (0 < m → cut size room (m - 1) + cut size room m < 2 * r)
-        → (m < 3 → 2 * r ≤ cut size room m + cut size room (m + 1)) → Chosen r (cut size room) m v
-    l_chosen m v h e under over = chosen r (cut size room) (rises r room 0 size order some fits) (differ r room 0 size order some fits) m v h e under over
-
-    module _ {m v : ℕ} (k : Chosen r (cut size room) m v) {u : ℕ} (d : Landed x p (2 * r) v u) (q : ℤ) (i : ℕ)
+    module _ {m v : ℕ} (picked : Picked r (cut size room) m v) {u : ℕ} (d : Landed x p (2 * r) v u) (q : ℤ) (i : ℕ)
         (eq : raised q ≡ u) (hq : mag q ≤ 32767) (ei : i ≡ cond (ltb 0 m) (min (s.index + 2 * m) 88) (s.index - 1)) where
+      k : Chosen r (cut size room) m v
+      k = chosen r (cut size room) (rises r room 0 size order some fits) (differ r room 0 size order some fits) picked
+
       ends : (code : ℕ) → code % 4 ≡ m → Lowest cost code → u ≡ landing code
           → Stepped q i
       unfolding landing stepped unclamped_predictor unclamped_index

@@ -15,19 +15,25 @@ pub record Chosen (r : ℕ) (o : ℕ → ℕ) (m v : ℕ) : Type 0 where
   pub below : (i : ℕ) → i < m → o i + o m < 2 * r
   pub above : (j : ℕ) → m < j → j < 4 → 2 * r ≤ o m + o j
 
+-- the same of the two middles beside m alone
+pub record Picked (r : ℕ) (o : ℕ → ℕ) (m v : ℕ) : Type 0 where
+  pub within : m < 4
+  pub value : v ≡ o m
+  pub under : 0 < m → o (m - 1) + o m < 2 * r
+  pub over : m < 3 → 2 * r ≤ o m + o (m + 1)
+
 -- the offsets cut off at a room
 abbrev pub cut : (ℕ → ℕ) → ℕ → ℕ → ℕ
 cut size room j = min (size j) room
 
 module _ (r : ℕ) (o : ℕ → ℕ) (rises : (i j : ℕ) → i ≤ j → j < 4 → o i ≤ o j) (differ : (i j : ℕ) → i < j → j < 4 → (o i < o j) ⊎ (r ≤ o j)) where
-  -- by the middles on both sides of the nearest
-  pub chosen : (m v : ℕ) → m < 4 → v ≡ o m → (0 < m → o (m - 1) + o m < 2 * r) → (m < 3 → 2 * r ≤ o m + o (m + 1)) → Chosen r o m v
-  chosen m v h e under over =
+  pub chosen : {m v : ℕ} → Picked r o m v → Chosen r o m v
+  chosen {m} {v} k =
       record {
-        within = h;
-        value = e;
-        below = λ i k. omega (arith, under (omega arith), rises i (m - 1) (omega arith) (omega arith));
-        above = λ j k l. omega (arith, over (omega arith), rises (m + 1) j (omega arith) l);
+        within = k.within;
+        value = k.value;
+        below = λ i h. omega (arith, k.under (omega arith), rises i (m - 1) (omega arith) (omega arith));
+        above = λ j h l. omega (arith, k.over (omega arith), rises (m + 1) j (omega arith) l);
       }
 
   module _ {m v : ℕ} (k : Chosen r o m v) where

@@ -141,7 +141,8 @@ fn within(sizes: Sizes, limit: u32) -> Sizes
     }
 }
 
-// What the encoder needs at each sample: the settings, and the sizes of L or L+ at each index, a row of four for each; of H zeros.
+// What the encoder needs at each sample: the settings, and the sizes of L or L+ at each index, a row of four for each; of H zeros, which
+// nothing reads. An `Option` of the sizes is no plainer: `l_next` and `sizes_at` would take the sizes, and each ask what they are of.
 #[derive(Drop)]
 pub struct Coder {
     pub settings: Settings,
