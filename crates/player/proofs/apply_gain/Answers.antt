@@ -2,7 +2,7 @@
 use native.Mathlib.Omega.{arith}
 use mathlib.Core.Path.{◌∙◌}
 use Rattle.signed.proofs.Laws.{back16}
-use Rattle.lists.proofs.ByIndex.{filled_none, filled_more, filled_all}
+use Rattle.lists.proofs.ByIndex.{filled_none, filled_more}
 use Rattle.player.proofs.apply_gain.Goals as goal
 
 pub loop-i-init : goal.loop-i-init
@@ -12,6 +12,3 @@ pub loop-i-preserved : goal.loop-i-preserved
 loop-i-preserved c =
     filled_more _ _ c.loop-i.invariant (omega arith)
     (back16 c.output_gain.result c.output_gain.type_inv ∙ c.output_gain.ensures ∙ rw (back16 c.at_depth.result c.at_depth.type_inv, c.at_depth.ensures))
-
-pub returns : goal.returns
-returns c = filled_all _ _ c.loop-i.invariant (omega arith)

