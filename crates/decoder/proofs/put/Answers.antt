@@ -2,7 +2,7 @@
 use Prim.Native.Nat.{ℕ, ◌+◌, ◌*◌, ◌/◌, ◌≤◌, ◌<◌}
 use native.Mathlib.Nat.{mod-lt}
 use native.Mathlib.Omega.{arith}
-use mathlib.Core.Path.{◌≡◌, refl, sym, ap, ◌∙◌}
+use mathlib.Core.Path.{◌≡◌, sym, ap, ◌∙◌}
 use mathlib.Core.List.{List}
 use lib.IntN.{ℤ, pos}
 use lib.ListN.{length, take, length-take}
@@ -20,7 +20,7 @@ room : (place : Place) {len : ℕ} → let h = place.stream.header in
 room place l = let s = place.stream in frame_room s.header _ _ (frame_of_lem place.p _ s.header.channels s.channels place.within) l
 
 pub overflow_mul-first : goal.overflow_mul-first
-overflow_mul-first c = rw (c.frame.ensures, c.frame_samples.ensures.0, c.coding.ensures) (omega (arith, (room c.args.place c.requires).start))
+overflow_mul-first c = rw (c.frame.ensures, c.frame_samples.ensures.0, c.coding.ensures) (omega (arith, (room c.args.place c.requires.1).start))
 
 taken : (c : After-channel-channel) → length (take c.samples.result c.args.samples.now) ≡ c.samples.result
 taken c = simp length-take (omega (arith, c.told-samples, c.samples.ensures.1))
@@ -31,7 +31,7 @@ fits : (c : After-channel-channel) {k : ℕ} → k ≡ c.args.place.stream.heade
 fits c e =
     let place = c.args.place in (
       rw (e, c.channel-channel.ensures) (mod-lt place.p place.stream.channels),
-      rw (taken c, e, c.samples.ensures.0, c.frame.ensures, c.frame_samples.ensures.0, c.coding.ensures) (room place c.requires).within,
+      rw (taken c, e, c.samples.ensures.0, c.frame.ensures, c.frame_samples.ensures.0, c.coding.ensures) (room place c.requires.1).within,
     )
 
 put_is : (c : After-channel-channel) {k : ℕ} (o : List ℤ) → k ≡ c.args.place.stream.header.channels → let place = c.args.place in
@@ -44,14 +44,17 @@ put_is c {k} o e =
     ∙ spread-take (pos 0) o c.args.samples.now first k c.channel-channel.result n n (omega arith)
     ∙ rw (e, c.frame.ensures, c.frame_samples.ensures.0, c.coding.ensures, c.channel-channel.ensures, c.samples.ensures.0)
 
+two : (c : After-channel-channel) → (c.args.place.stream.header.channels ≡ 1 → ⊥) → 2 ≡ c.args.place.stream.header.channels
+two c other = omega (arith, c.args.place.stream.channels, c.requires.0)
+
 pub spread-requires : goal.spread-requires
 spread-requires c = fits (goal.at.spread-requires c).After-channel-channel (sym c.if-header-eq1.true)
 
 pub spread-requires-else-header-eq1 : goal.spread-requires-else-header-eq1
-spread-requires-else-header-eq1 c = fits (goal.at.spread-requires-else-header-eq1 c).After-channel-channel refl
+spread-requires-else-header-eq1 c = let a = (goal.at.spread-requires-else-header-eq1 c).After-channel-channel in fits a (two a c.if-header-eq1.false)
 
 pub returns-then-header-eq1 : goal.returns-then-header-eq1
 returns-then-header-eq1 c = c.spread.ensures ∙ put_is (goal.at.returns-then-header-eq1 c).After-channel-channel _ (sym c.if-header-eq1.true)
 
 pub returns-else-header-eq1 : goal.returns-else-header-eq1
-returns-else-header-eq1 c = c.spread-else-header-eq1.ensures ∙ put_is (goal.at.returns-else-header-eq1 c).After-channel-channel _ refl
+returns-else-header-eq1 c = c.spread-else-header-eq1.ensures ∙ let a = (goal.at.returns-else-header-eq1 c).After-channel-channel in put_is a _ (two a c.if-header-eq1.false)

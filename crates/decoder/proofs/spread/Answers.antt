@@ -10,9 +10,9 @@ use Rattle.decoder.proofs.spread.Goals as goal
 
 pub loop-w-init : goal.loop-w-init
 unfolding spread
-loop-w-init c = refl
+loop-w-init g c = refl
 
 pub loop-w-preserved : goal.loop-w-preserved
 unfolding spread
-loop-w-preserved c =
+loop-w-preserved g c =
     rw (add-one, c.loop-w.invariant, back16 (get_or c.args.samples.now c.loop-w.w (pos 0)) (omega arith))
