@@ -31,6 +31,7 @@ fn pow2(n: usize) -> u64
 }
 
 // Internal: the code of `bits` bits at place `at`. It lies in two bytes that follow each other. Past the end it is 0.
+#[tactic(auto, using(crate::proofs::Laws::window, crate::proofs::Laws::bits_lt))]
 pub fn unpack_code(payload: &[u8], at: usize, bits: usize) -> u8
     requires { (bits ≤ 8) × (at < 2 ^ 32) }
     ensures { (result ≡ code_at bits at payload.now) × (result < 2 ^ bits) }
@@ -104,6 +105,7 @@ pub fn le<const N: usize>(s: &[u8], at: usize) -> u64
 }
 
 // Internal: the low N bytes of `x`, little-endian, in the N bytes from `at` on. The rest stays.
+#[tactic(auto, using(crate::proofs::Laws::part_put, crate::proofs::StdBytes::low_digits))]
 pub fn put_le<const N: usize>(out: &mut [u8], at: usize, x: u64)
     requires { (N ≤ 8) × (at + N ≤ length out.old) }
     ensures { out.new ≡ take at out.old ++ stored N x ++ drop (at + N) out.old }

@@ -1,24 +1,26 @@
 -- Two trials that stand at one state go on alike: the marks of a trial, and what they say of another. Assumes nothing.
 use mathlib.Core.Path.{◌≡◌, refl, sym, ◌∙◌, ap}
-use mathlib.Core.List.{List}
+use mathlib.Core.List.{List, map}
 use Prim.Native.Nat.{ℕ, zero, suc, ◌+◌, ◌-◌, ◌≤◌, ◌<◌}
 use native.Mathlib.Nat.{zero-add, suc-add}
 use native.Mathlib.Omega.{arith}
-use lib.IntN.{ℤ}
+use lib.IntN.{ℤ, pos, nat_abs, ◌-ℤ◌}
 use lib.ListN.{length, get_or, set, take, length-set}
 use lib.Seq.{get_or-take}
 use Rattle.lists.specs.Lists.{tabulate}
-use Rattle.lists.proofs.ByIndex.{get_d_tabulate, fill_next}
+use Rattle.lists.proofs.ByIndex.{get_d_tabulate, fill_next, map_at}
 use Rattle.signed.proofs.Raised.{raised-same}
+use Rattle.format.specs.Step.{stepped}
+use Rattle.format.specs.Gain.{normalised, output_gain}
 use Rattle.format.specs.Decode.{InRange}
-use Rattle.format.specs.Encode.{trial_step, trial_to}
+use Rattle.format.specs.Encode.{square, code_for, trial_step, trial_to}
 use Rattle.format.specs.declared.Settings.{Settings}
 use Rattle.format.specs.declared.State.{State}
 use Rattle.format.proofs.Range.{start_range, stepped_range}
 use Rattle.search.specs.Search.{key, mark_of, marks_of, Ran, tie, Beaten}
 use Rattle.search.specs.declared.Mark.{Mark}
 use Rattle.search.specs.declared.Best.{Best}
-use Rattle.search.proofs.Summed.{Summed, over_limit}
+use Rattle.search.proofs.Summed.{Summed, summed_more, over_limit}
 
 -- ---- a state and its key
 
@@ -66,6 +68,16 @@ module _ (k : Settings) (v : ℕ) (xs : List ℤ) where
           room = rw length-set d.room;
           marked = fill_next (λ i. mark_of (trial_to k v xs index i)) trace i (record { sum = sum; key = key' }) (omega (arith, d.room)) d.marked (rw (e, d.summed.state, d.summed.total));
         }
+
+    -- a sample more, where the targets are the samples normalised
+    pub traced_next : {i : ℕ} {s t : State} {sum q key' : ℕ} {trace : List Mark} {targets : List ℤ} → Traced index i s sum trace
+        → i < length xs → length xs ≤ 63 → targets ≡ map (normalised v) xs → key' ≡ key s
+        → t ≡ stepped 3 k.variant s (code_for k.variant s (get_or targets i (pos 0)))
+        → q ≡ square (nat_abs (get_or xs i (pos 0) -ℤ output_gain 3 v t.predictor)) → q ≤ 4294967296
+        → Traced index (i + 1) t (sum + q) (set trace i (record { sum = sum; key = key' }))
+    traced_next {i} d h few et ek es eq hq =
+        let y = ap (λ (l : List ℤ). get_or l i (pos 0)) et ∙ map_at (normalised v) xs i (pos 0) (pos 0) h in
+        traced_more d (omega arith) ek (summed_more k v xs index d.summed h refl y es eq hq)
 
     -- the sum so far is at most the whole
     pub stopped : {i sum : ℕ} {s : State} {trace : List Mark} {b : Best} → Traced index i s sum trace → b.sum + tie index b.index ≤ sum

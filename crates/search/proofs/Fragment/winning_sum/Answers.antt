@@ -1,18 +1,13 @@
 -- `search::Fragment::winning_sum` meets its contract. Assumes nothing.
-use mathlib.Core.Path.{refl, ◌∙◌, ap}
-use mathlib.Core.List.{List}
-use Prim.Native.Nat.{◌<◌}
 use native.Mathlib.Omega.{arith}
 use borrow.Author.Rules.{rules}
 use mir.Syntax.{w16}
 use mir.Val.{SFits}
-use lib.IntN.{ℤ, pos}
-use lib.ListN.{length, get_or}
-use Rattle.lists.proofs.ByIndex.{map_at}
+use lib.IntN.{pos}
+use lib.ListN.{get_or}
 use Rattle.signed.proofs.Laws.{back16, read16}
-use Rattle.format.specs.Gain.{normalised}
-use Rattle.search.proofs.Summed.{summed_none, summed_more}
-use Rattle.search.proofs.Meeting.{traced_none, traced_more, stopped, met}
+use Rattle.search.proofs.Summed.{summed_none}
+use Rattle.search.proofs.Meeting.{traced_none, traced_next, stopped}
 use Rattle.search.proofs.Fragment.winning_sum.Goals as goal
 
 pub loop-i-init : goal.loop-i-init
@@ -21,21 +16,11 @@ loop-i-init c = traced_none _ _ _ (summed_none _ _ _ _ c.fragment_start-state.en
 pub returns-then-limit-sum : goal.returns-then-limit-sum
 returns-then-limit-sum c = stopped _ _ _ c.loop-i.invariant (omega (arith, c.if-limit-sum.true, c.tie-tie.ensures))
 
-pub returns-then-meets : goal.returns-then-meets
-returns-then-meets c =
-    let m = c.meets.ensures c.if-meets.true in
-    met _ _ _ _ c.requires c.loop-i.invariant.summed (omega arith) c.key_of-key.ensures m.0 (omega (arith, m.1, c.tie-tie.ensures))
-
 pub loop-i-preserved : goal.loop-i-preserved
 loop-i-preserved c =
     let a = c.args.self.now in
-    let i = c.loop-i.i in
-    let h : i < length a.xs.now = omega arith in
-    let f : SFits w16 (get_or a.targets.now i (pos 0)) = search rules in
-    let e : SFits w16 (get_or a.xs.now i (pos 0)) = search rules in
-    let y = ap (λ (l : List ℤ). get_or l i (pos 0)) a.full_scale ∙ map_at (normalised a.volume) a.xs.now i (pos 0) (pos 0) h in
-    traced_more _ _ _ c.loop-i.invariant (omega (arith, a.few)) c.key_of-key.ensures
-    (summed_more _ _ _ _ c.loop-i.invariant.summed h refl y
-    (rw (back16 _ f.sfits) at c.next-state.ensures)
+    let f : SFits w16 (get_or a.targets.now c.loop-i.i (pos 0)) = search rules in
+    let e : SFits w16 (get_or a.xs.now c.loop-i.i (pos 0)) = search rules in
+    traced_next _ _ _ c.loop-i.invariant (omega arith) a.few a.full_scale c.key_of-key.ensures (rw (back16 _ f.sfits) at c.next-state.ensures)
     (rw (back16 _ e.sfits, read16 _ c.next-state.result.in_range.predictor) at c.squared_error-sum.ensures.0)
-    c.squared_error-sum.ensures.1)
+    c.squared_error-sum.ensures.1
