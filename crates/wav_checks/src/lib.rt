@@ -31,7 +31,7 @@ fn check_format(f: Format) -> Result<usize, WaveError>
 }
 
 // The checks 26 to 33, after the walk.
-#[tactic(auto, using(outcome::proofs::Laws::checks), unfolding(outcome::specs::Outcome::and_then, wav_format::specs::Wave::found, wav_format::specs::Wave::check_chunks, wav_format::specs::Wave::check_data, wav_format::specs::Answers::number_of, wav_format::specs::Answers::values_of))]
+#[tactic(auto, using(outcome::proofs::Laws::checks, wav_format::proofs::Steps::frame_some), unfolding(outcome::specs::Outcome::and_then, wav_format::specs::Wave::found, wav_format::specs::Wave::check_chunks, wav_format::specs::Wave::check_data, wav_format::specs::Answers::number_of, wav_format::specs::Answers::values_of))]
 pub fn check_chunks(end: usize, c: Chunks) -> Result<Wave, WaveError>
     ensures { answered result ≡ check_chunks end c }
 {

@@ -1,16 +1,26 @@
 -- `encoder::encode` meets its contract. Assumes nothing.
-use mathlib.Core.Path.{refl}
-use Prim.Native.Nat.{◌/◌, ◌<◌}
+use mathlib.Core.Path.{◌≡◌, refl}
+use mathlib.Core.Bool.{true}
+use Prim.Native.Nat.{◌/◌, ◌≤◌, ◌<◌}
 use native.Mathlib.Omega.{arith}
 use lib.ListN.{length}
 use Rattle.format.proofs.Sizes.{channels_few}
 use Rattle.format.specs.Answers.{number_of, values_of}
+use Rattle.format.specs.Layout.{channels_fit}
 use Rattle.format.specs.Encode.{header_written, too_many, encode_call}
 use Rattle.format.specs.declared.Error.TheVariants as E
 use Rattle.outcome.proofs.Flags.{via}
 use Rattle.outcome.proofs.Laws.{checks}
 use Rattle.encoder.proofs.Encoding.{as_refused, as_written, too_short, long_enough, headed_length}
 use Rattle.encoder.proofs.encode.Goals as goal
+use Rattle.encoder.proofs.encode.Goals.{Else-rate-eq0}
+
+-- past the check 1
+fit : (c : Else-rate-eq0) → channels_fit 3 c.args.channels ≡ true
+fit c = via _ _ _ c.channels_fit.ensures c.if-not-channels_fit.false
+
+few : (c : Else-rate-eq0) → (0 < c.args.channels) × (c.args.channels ≤ 2)
+few c = channels_few _ _ (fit c)
 
 pub returns-then-not-channels_fit : goal.returns-then-not-channels_fit
 unfolding encode_call number_of values_of
@@ -21,14 +31,14 @@ unfolding encode_call number_of values_of
 returns-then-rate-eq0 c = as_refused _ _ _ _ _ E.ZeroSampleRate (search checks depth 12)
 
 pub nonzero_rem-pcm : goal.nonzero_rem-pcm
-nonzero_rem-pcm c = (channels_few _ _ (via _ _ _ c.channels_fit.ensures c.if-not-channels_fit.false)).0
+nonzero_rem-pcm c = (few c).0
 
 pub returns-then-pcm-count-ne0 : goal.returns-then-pcm-count-ne0
 unfolding encode_call number_of values_of
 returns-then-pcm-count-ne0 c = as_refused _ _ _ _ _ E.MisalignedInterleavedSamples (search checks depth 12)
 
 pub nonzero_div-pcm : goal.nonzero_div-pcm
-nonzero_div-pcm c = (channels_few _ _ (via _ _ _ c.channels_fit.ensures c.if-not-channels_fit.false)).0
+nonzero_div-pcm c = (few (goal.at.nonzero_div-pcm c).Else-rate-eq0).0
 
 pub returns-in_default : goal.returns-in_default
 unfolding encode_call number_of values_of too_many
@@ -38,14 +48,13 @@ returns-in_default c =
 
 pub returns-then-out-needed : goal.returns-then-out-needed
 unfolding header_written
-returns-then-out-needed c = as_refused _ _ _ _ _ (E.OutputTooShort _) (too_short c.args.settings _ _ _ _ (via _ _ _ c.channels_fit.ensures c.if-not-channels_fit.false) c.if-rate-eq0.false c.if-pcm-count-ne0.false (omega (arith, c.in-Ok.ensures.0)) _ (rw c.in-Ok.ensures.1 at c.stream_length-needed.ensures) c.if-out-needed.true)
+returns-then-out-needed c = as_refused _ _ _ _ _ (E.OutputTooShort _) (too_short c.args.settings _ _ _ _ (fit (goal.at.returns-then-out-needed c).Else-rate-eq0) c.if-rate-eq0.false c.if-pcm-count-ne0.false (omega (arith, c.in-Ok.ensures.0)) _ (rw c.in-Ok.ensures.1 at c.stream_length-needed.ensures) c.if-out-needed.true)
 
 pub put_fragments-requires : goal.put_fragments-requires
 unfolding header_written
 put_fragments-requires c =
-    let fit = channels_few _ _ (via _ _ _ c.channels_fit.ensures c.if-not-channels_fit.false) in
-    (fit.0, rw (c.new.ensures, c.in-Ok.ensures.1) refl, rw c.new.ensures (headed_length _ c.args.out.now _ _ c.put_header.ensures c.stream_length-needed.ensures c.if-out-needed.false))
+    ((few (goal.at.put_fragments-requires c).Else-rate-eq0).0, rw (c.new.ensures, c.in-Ok.ensures.1) refl, rw c.new.ensures (headed_length _ c.args.out.now _ _ c.put_header.ensures c.stream_length-needed.ensures c.if-out-needed.false))
 
 pub returns : goal.returns
 unfolding header_written
-returns c = as_written _ _ _ _ _ _ _ _ _ (long_enough c.args.settings _ _ _ _ (via _ _ _ c.channels_fit.ensures c.if-not-channels_fit.false) c.if-rate-eq0.false c.if-pcm-count-ne0.false (omega (arith, c.in-Ok.ensures.0)) _ (rw c.in-Ok.ensures.1 at c.stream_length-needed.ensures) c.if-out-needed.false) (rw c.in-Ok.ensures.1 refl) c.stream_length-needed.ensures c.put_header.ensures (rw (c.new.ensures, c.in-Ok.ensures.1) at c.put_fragments.ensures)
+returns c = as_written _ _ _ _ _ _ _ _ _ (long_enough c.args.settings _ _ _ _ (fit (goal.at.returns c).Else-rate-eq0) c.if-rate-eq0.false c.if-pcm-count-ne0.false (omega (arith, c.in-Ok.ensures.0)) _ (rw c.in-Ok.ensures.1 at c.stream_length-needed.ensures) c.if-out-needed.false) (rw c.in-Ok.ensures.1 refl) c.stream_length-needed.ensures c.put_header.ensures (rw (c.new.ensures, c.in-Ok.ensures.1) at c.put_fragments.ensures)
