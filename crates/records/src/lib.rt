@@ -34,6 +34,7 @@ pub fn put_printed<F: Fn(&[u8], &mut [u8; ROOM]) -> usize>(
 )
     requires callable { F.IsAlwaysCallable command }
     requires prints { (input : _) (out : _) (count : _) (after : _) → F.post command input out count after → IsPrefixLen count after.now }
+    ensures { (out : _) × (count : _) × (after : _) × F.post command input.entry out count after × Printed answer.old (take count after.now) answer.new }
 {
     let mut out = [0u8; ROOM];
     let count = command(input, &mut out);

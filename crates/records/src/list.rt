@@ -1,3 +1,5 @@
+ghost use Rattle.std.specs.Prelude.{◌≡◌, true, take, Some};
+
 use crate::{Question, front};
 use commands::{READ, ROOM};
 use std::fs::File;
@@ -7,6 +9,9 @@ use text::Printer;
 
 // The most bytes of a question.
 const QUESTION: usize = READ + 1;
+
+// The bytes of a record's four sizes.
+const SIZES: usize = 16;
 
 // The most records of a list.
 const MOST_RECORDS: u32 = 1000000;
@@ -36,13 +41,17 @@ fn read_front<R: Read>(list: &mut R, buffer: &mut [u8], size: u32) -> Result<(),
     }
 }
 
-// Whether the answer to a question is the one that was recorded.
+// Whether the answer to a question is the one that was recorded. What is asked answers None where it has no answer, so that `?` leaves it.
+// It stands as a parameter in each function here, with its clause. Tried: a struct that keeps both, but the check does not read a closure's
+// predicates in a ghost field, and takes no `&dyn Fn` as a field.
 fn is_answered<F: Fn(Question, &mut Printer) -> Option<()>>(
     question: &[u8],
     answer: &[u8],
     ask: &F,
 ) -> bool
     requires { F.IsAlwaysCallable ask.now }
+    ensures { result ≡ true → (page : _) × (after : _) × F.post ask.now (record { rest = question.entry }) page (Some tt) after
+        × (take after.now.at after.now.out.now ≡ answer.now) }
 {
     let mut out = [0u8; ROOM];
     let mut page = Printer::new(&mut out);
@@ -57,10 +66,11 @@ fn try_record<R: Read, F: Fn(Question, &mut Printer) -> Option<()>>(
 ) -> Result<Option<bool>, Broken>
     requires { F.IsAlwaysCallable ask.now }
 {
-    let mut sizes = [0u8; 16];
-    match io::copy(&mut list.by_ref().take(16), &mut &mut sizes[..])? {
+    let mut sizes = [0u8; SIZES];
+    let read = io::copy(&mut list.by_ref().take(SIZES as u64), &mut &mut sizes[..])?;
+    match read as usize {
         0 => return Ok(None),
-        16 => {}
+        SIZES => {}
         _ => return Err(Broken),
     }
     let mut sizes = Question { rest: &sizes };
@@ -124,7 +134,8 @@ fn replay_file<F: Fn(Question, &mut Printer) -> Option<()>>(
     }
 }
 
-// Replays the list in each file, and prints what it gave. A file that can't be opened is named.
+// Replays the list in each file, and prints what it gave. A file that can't be opened is named. No contract of the library says what a file
+// holds or what is printed: replay_calls tries a list of wrong answers, each of which must be printed as one that differs.
 pub fn replay<F: Fn(Question, &mut Printer) -> Option<()>>(
     rt: &HostRuntime,
     names: &[&str],

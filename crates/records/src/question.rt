@@ -1,5 +1,6 @@
 ghost use Rattle.std.specs.Prelude.{◌≡◌, ◌≤◌, ◌<◌, length, replicate, take, drop, slice_index};
 ghost use Rattle.std.specs.Int.{from_le_bytes, w32, w64};
+ghost use Rattle.records.specs.Bytes.{predictor_of};
 
 use format::State;
 
@@ -64,12 +65,15 @@ impl<'a> Question<'a> {
 
     // The next decoder's state: whether the predictor is negative, its magnitude, and the index. A predictor that is too large is the least.
     pub fn state(&mut self) -> State
+        ensures predictor { 17 ≤ length self.old.rest.now
+            → result.predictor ≡ predictor_of (slice_index self.old.rest.now 0) (from_le_bytes w64 (take 8 (drop 1 self.old.rest.now))) }
+        ensures index { 17 ≤ length self.old.rest.now → result.index ≡ from_le_bytes w64 (take 8 (drop 9 self.old.rest.now)) }
         ensures rest { self.new.rest.now ≡ drop 17 self.old.rest.now }
     {
         let negative = self.byte() == 1;
-        let magnitude = self.long();
-        let predictor = match i64::try_from(magnitude) {
-            Ok(m) => i32::try_from(if negative { -m } else { m }).unwrap_or(i32::MIN),
+        let predictor = match i32::try_from(self.long()) {
+            Ok(magnitude) if negative => -magnitude,
+            Ok(magnitude) => magnitude,
             Err(_) => i32::MIN,
         };
         State {

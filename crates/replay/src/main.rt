@@ -25,6 +25,11 @@ const FILE: usize = 2148;
 
 const BYTE: u8 = 165;
 
+// The most samples of a fragment, and the bytes of the fragment decoder's longest answer: 1, the state's 17 bytes, and the samples.
+const FRAGMENT: usize = Variant::LEGACY_FRAGMENT_SAMPLES;
+
+const PLAYED: usize = 18 + 2 * FRAGMENT;
+
 // A refusal: 0, its number, how many numbers it returns, and those in eight bytes each. Where the answer is a result, it is put already.
 fn finish<E: Refusal>(asked: Result<(), E>, answer: &mut Printer) {
     let Err(refusal) = asked else {
@@ -166,7 +171,7 @@ fn lent_count(answer: Answer) -> Result<usize, Lent> {
         _ => Values::Zero,
     };
     Err(Lent {
-        number: (answer.refusal % 256) as u8,
+        number: u8::try_from(answer.refusal).unwrap_or(u8::MAX),
         values,
     })
 }
@@ -190,10 +195,10 @@ fn play_lent(fragment: Fragment, pcm: &mut [i16], answer: &mut Printer) -> Resul
 fn ask_fragment_decoder(question: Question, answer: &mut Printer) -> Option<()> {
     let fragment = question.fragment();
     let count = fragment.count as usize;
-    let mut pcm = [0i16; 64];
+    let mut pcm = [0i16; FRAGMENT];
     finish(play(fragment, pcm.get_mut(..count)?, answer), answer);
-    let mut lent_pcm = [0i16; 64];
-    let mut lent_out = [0u8; 160];
+    let mut lent_pcm = [0i16; FRAGMENT];
+    let mut lent_out = [0u8; PLAYED];
     let mut lent = Printer::new(&mut lent_out);
     finish(
         play_lent(fragment, lent_pcm.get_mut(..count)?, &mut lent),
@@ -202,7 +207,7 @@ fn ask_fragment_decoder(question: Question, answer: &mut Printer) -> Option<()> 
     (answer.text() == lent.text()).then_some(())
 }
 
-// Asks a question, and puts its answer. Some have none.
+// Asks a question, and puts its answer. None where it has none, so that `?` leaves it.
 fn ask(mut question: Question, answer: &mut Printer) -> Option<()> {
     match Kind::try_from(question.byte()).ok()? {
         Kind::Encoder => finish(ask_encoder(question, answer), answer),

@@ -209,7 +209,7 @@ fn put_read(answer: &mut Printer, file: &[u8], a: WaveAnswer, samples: &[u8]) ->
     Some(())
 }
 
-// Asks a question, and puts its answer. Some have none.
+// Asks a question, and puts its answer. None where it has none, so that `?` leaves it.
 fn ask(mut question: Question, answer: &mut Printer) -> Option<()> {
     let kind = Kind::try_from(question.byte()).ok()?;
     let rest = question.rest;
