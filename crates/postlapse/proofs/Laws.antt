@@ -1,17 +1,15 @@
 -- What the proofs of the calls cite. Assumes nothing.
 use mathlib.Core.Path.{◌≡◌, refl, sym, ◌∙◌, ap}
-use Prim.Native.Nat.{ℕ, ◌<◌, ◌≤◌}
-use mathlib.Core.Bool.{false}
+use Prim.Native.Nat.{ℕ}
+use mathlib.Core.Bool.{true, false}
 use mathlib.Core.List.{List, [], ◌∷◌}
-use lib.Dec.{ltb}
-use borrow.Author.Tests.{lt-leb, le-leb, le-ltb}
 use lib.IntN.{ℤ}
 use lib.ListN.{length}
 use Rattle.std.specs.Result.{is_ok}
 use Rattle.std.specs.declared.result.Result.{Result}
 use Rattle.std.specs.declared.result.Result.TheVariants.{Ok, Err}
 use Rattle.outcome.specs.Outcome.{Outcome, result, refused, and_then, on_result, output_after}
-use Rattle.format.specs.Layout.{variant_of}
+use Rattle.format.specs.Layout.{variant_of, anew}
 use Rattle.format.specs.Decode.{DecodedFragment, fragment_call, state_left, moves}
 use Rattle.format.specs.Answers.{answered}
 use Rattle.format.specs.declared.Error.{Error}
@@ -42,15 +40,15 @@ unfolding on_result output_after state_left
 plays_none e = record { answered = rw (← e); state_after = rw (← e); output_left = rw (← e) }
 
 -- a result changes it where fragments don't start anew
-pub moves_below : (version : ℕ) (r : Result ℕ Error) → version < 3 → is_ok r ≡ moves version (answered r)
+pub moves_carried : (version : ℕ) (r : Result ℕ Error) → anew version ≡ false → is_ok r ≡ moves version (answered r)
 unfolding moves
-moves_below version (Ok n) h = rw (lt-leb 3 version h)
-moves_below version (Err e) h = refl
+moves_carried version (Ok n) h = rw h
+moves_carried version (Err e) h = refl
 
-pub moves_from : (version : ℕ) (r : Result ℕ Error) → 3 ≤ version → ltb version 3 ≡ moves version (answered r)
+pub moves_anew : (version : ℕ) (r : Result ℕ Error) → anew version ≡ true → false ≡ moves version (answered r)
 unfolding moves
-moves_from version (Ok n) h = rw (le-leb 3 version h, le-ltb version 3 h)
-moves_from version (Err e) h = le-ltb version 3 h
+moves_anew version (Ok n) h = rw h
+moves_anew version (Err e) h = refl
 
 -- it goes by whether there is a result, and not by which
 moves_on : {A B : Type 0} (version : ℕ) (f : A → B) (o : Outcome A) → moves version (on_result f o) ≡ moves version o

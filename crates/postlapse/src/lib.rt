@@ -212,12 +212,12 @@ pub fn postlapse_decode(file: &[u8], out: &mut [i16]) -> HeaderAnswer
     HeaderAnswer::from(decoder::decode(file, out))
 }
 
-// Whether a call changes the channel's state: a result of versions 1 and 2.
-#[tactic(auto, using(crate::proofs::Laws::moves_below, crate::proofs::Laws::moves_from))]
+// Whether a call changes the channel's state: a result of a version whose fragments don't start anew.
+#[tactic(auto, using(crate::proofs::Laws::moves_carried, crate::proofs::Laws::moves_anew))]
 fn moves(version: u8, answer: &Result<usize, Error>) -> bool
     ensures { result ≡ moves version (answered answer.now) }
 {
-    version < 3 && answer.is_ok()
+    !format::starts_anew(version) && answer.is_ok()
 }
 
 // Decodes one fragment of the variant that a byte names.
