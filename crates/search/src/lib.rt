@@ -126,7 +126,7 @@ impl<'a> Fragment<'a> {
 
     // Internal: the same, for a start that is tried against the best. The trial is given up where its sum can no longer win, and where
     // it meets the best one: from there on the two go alike. One function with `whole_sum`, over an `Option` of the best, proves, but H,
-    // to be encoded at 4.5 times the Rust's speed, was 17 % slower with it.
+    // to be encoded at 4.5 times the Rust's speed, was 6 % slower with it (L and L+ 15 %).
     #[tactic(auto, using(crate::proofs::Meeting::met))]
     fn winning_sum(&self, index: u8, best: &Best, trace: &mut [Mark; 63]) -> Option<u64>
         requires { Ran self.now.coder.now.settings self.now.volume self.now.xs.now best.now }
