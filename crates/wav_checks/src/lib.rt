@@ -22,7 +22,7 @@ fn check_format(f: Format) -> Result<usize, WaveError>
     if f.rate == 0 {
         return Err(WaveError::ZeroRate);
     }
-    let frame = f.channels as u32 * 2;
+    let frame = wav_format::frame_bytes(f.channels);
     let byte_rate = f.rate.checked_mul(frame).ok_or(WaveError::ByteRate)?;
     if f.align as u32 != frame || f.byte_rate != byte_rate {
         return Err(WaveError::Inconsistent);

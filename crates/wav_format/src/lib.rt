@@ -3,7 +3,7 @@
 #![tactic(auto)]
 
 ghost use Rattle.std.specs.Prelude.{◌≡◌};
-ghost use Rattle.wav_format.specs.Wave.{one_or_two};
+ghost use Rattle.wav_format.specs.Wave.{frame_bytes, one_or_two};
 ghost use Rattle.wav_format.specs.Answers.{number_of, values_of};
 
 use outcome::{Refusal, Values};
@@ -113,6 +113,13 @@ pub struct Wave {
     pub samples: Part,
     pub format: Part,
     pub end: usize,
+}
+
+// Bytes of a frame: two for each channel.
+pub fn frame_bytes(channels: u16) -> u32
+    ensures { result ≡ frame_bytes channels }
+{
+    channels as u32 * 2
 }
 
 // Whether a channel count is 1 or 2.

@@ -11,10 +11,10 @@ use wav_format::WaveError;
 // the fields that differ.
 #[tactic(auto, unfolding(crate::specs::Writer::wave_header, digits::specs::Digits::digits))]
 fn wave_header(channels: u8, rate: u32, byte_rate: u32, riff: u32, size: u32) -> [u8; 44]
-    requires { (channels ≤ 2) × (byte_rate ≡ rate * frame_bytes channels) × (riff ≡ size + 36) }
+    requires { (byte_rate ≡ rate * frame_bytes channels) × (riff ≡ size + 36) }
     ensures { result ≡ wave_header channels rate size }
 {
-    let align = channels * 2;
+    let align = wav_format::frame_bytes(channels as u16);
     let mut header =
         *b"RIFF\0\0\0\0WAVEfmt \x10\0\0\0\x01\0\0\0\0\0\0\0\0\0\0\0\0\0\x10\0data\0\0\0\0";
     digits::put_le::<4>(&mut header, 4, riff as u64);
@@ -56,7 +56,7 @@ pub fn write_pcm16_wave(
     };
     let riff = size.checked_add(36).ok_or(WaveError::RiffSize)?;
     let byte_rate = rate
-        .checked_mul(channels as u32 * 2)
+        .checked_mul(wav_format::frame_bytes(channels as u16))
         .ok_or(WaveError::WriterByteRate)?;
     let needed = 44 + size as usize;
     if out.len() < needed {
