@@ -46,7 +46,7 @@ impl Variant {
     pub fn payload_bytes(self) -> usize
         ensures { result ≡ payload_bytes self }
     {
-        (Self::FRAGMENT_SAMPLES * self.bits() + 7) / 8
+        (Self::FRAGMENT_SAMPLES * self.bits()).div_ceil(8)
     }
 }
 
@@ -244,7 +244,27 @@ impl Reached {
     }
 }
 
-// What a stream's header says: the rate, and the samples of each channel.
+// A state of a caller's own, if it is one of a decoding; else refusal 15.
+impl TryFrom<State> for Reached {
+    ghost use Rattle.std.specs.Prelude.{◌&&◌, leb, MatchResult};
+    ghost use Rattle.std.specs.Int.Signed.{mag};
+    ghost use Rattle.format.specs.declared.Error.TheVariants.{InvalidState};
+
+    type Error = Error;
+
+    ghost try_from_gives = { λ state answer. MatchResult answer (λ reached. reached.state ≡ state)
+        (λ error. (error ≡ InvalidState) × ((leb (mag state.predictor) 32767 && leb state.index 88) ≡ false)) };
+
+    fn try_from(state: State) -> Result<Reached, Error> {
+        if i16::try_from(state.predictor).is_err() || state.index > State::MAX_STEP_INDEX as usize {
+            return Err(Error::InvalidState);
+        }
+        Ok(Reached { state })
+    }
+}
+
+// What a stream's header says: the rate, and the samples of each channel. Version and variant stand by themselves, as in 01's header;
+// `coding` has the two together.
 #[derive(Clone, Copy)]
 pub struct Header {
     pub version: u8,
