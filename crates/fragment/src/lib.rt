@@ -19,6 +19,7 @@ fn fragment_fits(coding: Coding, fragment: &[u8], n: usize) -> bool
 
 // The state to decode from, if it is one of a decoding; a fragment that starts anew takes any, and the zero state stands for it. No
 // Option: such a fragment does not use the state, and `fragment_core` takes one in every version, so the choice would only move there.
+#[tactic(auto, unfolding(format::specs::Decode::state_fits))]
 fn usable(coding: Coding, state: State) -> Result<Reached, Error>
     ensures { MatchResult result (λ reached. (state_fits coding.version state ≡ true) × (anew coding.version ≡ false → reached.state ≡ state))
         (λ error. (error ≡ Error.InvalidState) × (state_fits coding.version state ≡ false)) }
@@ -26,10 +27,7 @@ fn usable(coding: Coding, state: State) -> Result<Reached, Error>
     if coding.starts_anew() {
         return Ok(Reached::zero());
     }
-    if i16::try_from(state.predictor).is_err() || state.index > State::MAX_STEP_INDEX as usize {
-        return Err(Error::InvalidState);
-    }
-    Ok(Reached { state })
+    Reached::try_from(state)
 }
 
 // The state after a fragment, whose samples fill the output; an error leaves the output as it was.
@@ -54,10 +52,10 @@ fn decode(coding: Coding, state: State, fragment: &[u8], out: &mut [i16]) -> Res
     }
 }
 
-// What the decoder of one fragment gives: how many samples it wrote or why it refuses, and the channel's state after the call.
+// What the decoder of one fragment gives: its answer, and the channel's state after the call.
 #[derive(Clone, Copy)]
-pub struct Returned {
-    pub answer: Result<usize, Error>,
+pub struct Returned<A> {
+    pub answer: A,
     pub state: State,
 }
 
@@ -69,7 +67,7 @@ pub fn decode_one(
     state: State,
     fragment: &[u8],
     out: &mut [i16],
-) -> Returned
+) -> Returned<Result<usize, Error>>
     ensures { AsCalled version variant state fragment.now out.old
         result.answer result.state out.new }
 {
