@@ -13,13 +13,14 @@ ghost use Rattle.postlapse.specs.Answers.{answer_of, header_answer_of, wave_answ
 ghost use Rattle.postlapse.specs.Promises.{encode_for_c, fragment_for_c, Fills, Decodes, Plays, PlaysAs, PlaysByValue};
 
 use format::{Error, Header, State, Variant};
+use fragment::Returned;
 use outcome::{Refusal, Values};
 use wav_format::Wave;
 
 // A count, or a refusal: 0 and how many bytes or samples were written; or the number in 01's table and its returned numbers, 0 where
 // there are none. These structs are laid out for C, which has no Result: the refusal stands as a number.
 #[repr(C)]
-#[derive(Clone, Copy)]
+#[derive(Clone, Copy, Default)]
 pub struct Answer {
     pub refusal: usize,
     pub first: usize,
@@ -28,7 +29,7 @@ pub struct Answer {
 
 // A header, or a refusal as in `Answer`. What the other would fill is 0.
 #[repr(C)]
-#[derive(Clone, Copy)]
+#[derive(Clone, Copy, Default)]
 pub struct HeaderAnswer {
     pub refusal: usize,
     pub first: usize,
@@ -42,7 +43,7 @@ pub struct HeaderAnswer {
 
 // What a WAV file says, and where in it the sample bytes lie; or the number of a refusal, and zeros.
 #[repr(C)]
-#[derive(Clone, Copy)]
+#[derive(Clone, Copy, Default)]
 pub struct WaveAnswer {
     pub refusal: usize,
     pub channels: u16,
@@ -72,13 +73,12 @@ fn refused<E: Refusal>(error: E) -> Answer
     match error.values() {
         Values::Zero => Answer {
             refusal,
-            first: 0,
-            second: 0,
+            ..Answer::default()
         },
         Values::One(first) => Answer {
             refusal,
             first,
-            second: 0,
+            ..Answer::default()
         },
         Values::Two(first, second) => Answer {
             refusal,
@@ -94,10 +94,9 @@ impl<E: Refusal> From<Result<usize, E>> for Answer {
     #[tactic(auto, unfolding(crate::specs::Answers::answer_of))]
     fn from(given: Result<usize, E>) -> Answer {
         match given {
-            Ok(count) => Answer {
-                refusal: 0,
-                first: count,
-                second: 0,
+            Ok(first) => Answer {
+                first,
+                ..Answer::default()
             },
             Err(error) => refused(error),
         }
@@ -113,14 +112,12 @@ impl<E: Refusal> From<Result<Header, E>> for HeaderAnswer {
             Ok(header) => {
                 let variant = u8::from(header.variant);
                 HeaderAnswer {
-                    refusal: 0,
-                    first: 0,
-                    second: 0,
                     version: header.version,
                     variant,
                     channels: header.channels,
                     rate: header.rate,
                     samples: header.samples,
+                    ..HeaderAnswer::default()
                 }
             }
             Err(error) => {
@@ -129,11 +126,7 @@ impl<E: Refusal> From<Result<Header, E>> for HeaderAnswer {
                     refusal: answer.refusal,
                     first: answer.first,
                     second: answer.second,
-                    version: 0,
-                    variant: 0,
-                    channels: 0,
-                    rate: 0,
-                    samples: 0,
+                    ..HeaderAnswer::default()
                 }
             }
         }
@@ -147,18 +140,15 @@ impl<E: Refusal> From<Result<Wave, E>> for WaveAnswer {
     fn from(given: Result<Wave, E>) -> WaveAnswer {
         match given {
             Ok(wave) => WaveAnswer {
-                refusal: 0,
                 channels: wave.channels,
                 rate: wave.rate,
                 start: wave.samples.start,
                 size: wave.samples.size,
+                ..WaveAnswer::default()
             },
             Err(error) => WaveAnswer {
                 refusal: error.number() as usize,
-                channels: 0,
-                rate: 0,
-                start: 0,
-                size: 0,
+                ..WaveAnswer::default()
             },
         }
     }
@@ -221,12 +211,18 @@ fn moves(version: u8, answer: &Result<usize, Error>) -> bool
 }
 
 // Decodes one fragment of the variant that a byte names.
-fn play(version: u8, byte: u8, state: State, fragment: &[u8], out: &mut [i16]) -> fragment::Returned
+fn play(
+    version: u8,
+    byte: u8,
+    state: State,
+    fragment: &[u8],
+    out: &mut [i16],
+) -> Returned<Result<usize, Error>>
     ensures { PlaysAs (fragment_for_c version byte state fragment.now (length out.old)) state out.old (answered result.answer) result.state out.new }
 {
     match Variant::try_from(byte) {
         Ok(variant) => fragment::decode_one(version, variant, state, fragment, out),
-        Err(error) => fragment::Returned {
+        Err(error) => Returned {
             answer: Err(error),
             state,
         },
@@ -273,22 +269,15 @@ pub fn postlapse_decode_fragment_lent(
     Answer::from(played.answer)
 }
 
-// What the lent form gives where a state of the caller's own is lent: its answer, and the state that comes back.
-#[derive(Clone, Copy)]
-pub struct Returned {
-    pub answer: Answer,
-    pub state: State,
-}
-
-// The lent form with plain parameters: a local state is lent to it, and comes back with the answer. It is there so that a program
-// of plain data can run the lent form: replay does, at every recorded fragment.
+// The lent form with plain parameters: a local state is lent to it, and comes back with the answer. The replays ask it at every recorded
+// fragment beside the form by value, which has the same parameters.
 pub fn decode_through_lent(
     version: u8,
     variant: u8,
     state: State,
     fragment: &[u8],
     out: &mut [i16],
-) -> Returned
+) -> Returned<Answer>
     ensures { Plays (fragment_for_c version variant state fragment.now (length out.old))
         state out.old result.answer result.state out.new }
 {
