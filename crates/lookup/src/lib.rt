@@ -55,14 +55,17 @@ impl Tables {
     }
 
     // A state, as the tables take it.
-    #[tactic(auto, using(crate::proofs::Steps::kept_back, crate::proofs::Steps::held))]
     pub fn keep(self, state: Reached) -> Kept
-        ensures { (result.variant ≡ self.coding.variant) × (state_of self.coding.variant result.point ≡ state.state) }
+        ensures { (result.variant ≡ self.coding.variant) × (result.point ≡ kept self.coding.variant state.state)
+            × (state_of self.coding.variant result.point ≡ state.state) }
     {
-        let point = keep(self.coding.variant, state);
+        let variant = self.coding.variant;
+        let State { predictor, index } = state.state;
+        let depth = signed::depth(predictor);
+        let at = index * row_size(variant);
         Kept {
-            variant: self.coding.variant,
-            point,
+            variant,
+            point: Point { depth, at },
         }
     }
 
@@ -80,17 +83,8 @@ impl Tables {
     }
 }
 
-// A state, as the tables take it.
-pub fn keep(variant: Variant, state: Reached) -> Point
-    ensures { result ≡ kept variant state.state }
-{
-    Point {
-        depth: signed::depth(state.state.predictor),
-        at: state.state.index * row_size(variant),
-    }
-}
-
-// Internal: the state after a code. The next row is read from the table's rest behind the code, so that it waits for the row alone.
+// Internal: the state after a code, on any two tables: it promises more than `Tables::step`. The next row is read from the table's rest
+// behind the code, so that it waits for the row alone.
 #[tactic(auto, using(crate::proofs::Steps::rest_at), unfolding(crate::specs::Lookup::looked))]
 pub fn step(s: Point, code: u8, differences: &[u32], nexts: &[u16]) -> Point
     requires { (s.depth ≤ 65535) × (s.at + code < length differences.now) × (length nexts.now ≡ length differences.now)
@@ -105,7 +99,8 @@ pub fn step(s: Point, code: u8, differences: &[u32], nexts: &[u16]) -> Point
     Point { depth, at }
 }
 
-// Internal: a state, as the tables gave it.
+// Internal: a state, as the tables gave it. It takes every depth up to 65535, and `Kept::state` only the points of states that a decoding
+// reaches.
 #[tactic(auto, using(signed::proofs::Laws::back16, signed::proofs::Laws::back32), unfolding(crate::specs::Lookup::state_of))]
 pub fn state_of(variant: Variant, s: Point) -> State
     requires { s.depth ≤ 65535 }
