@@ -45,7 +45,7 @@ fn chunk(file: &[u8], end: usize, c: Chunks) -> Result<Chunks, WaveError>
     }
     let size = digits::le::<4>(file, c.at + 4) as usize;
     let start = c.at + 8;
-    let at = start + size + size % 2;
+    let at = start + size.next_multiple_of(2);
     if end < at {
         return Err(WaveError::ChunkEnd);
     }

@@ -13,9 +13,8 @@ pub fn load_samples(bytes: &[u8], out: &mut [i16]) -> Result<usize, WaveError>
     if out.len() < n {
         return Err(WaveError::OutputTooShort(n));
     }
-    // By index: of what is written through the items of a zip the proof knows nothing.
-    for i in 0..n {
-        out[i] = signed::sample_of(bytes[2 * i], bytes[2 * i + 1]);
+    for (i, sample) in out[..n].iter_mut().enumerate() {
+        *sample = signed::sample_of(bytes[2 * i], bytes[2 * i + 1]);
     }
     Ok(n)
 }

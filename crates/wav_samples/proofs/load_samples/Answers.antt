@@ -1,25 +1,35 @@
-use mathlib.Core.Path.{◌≡◌, ap, ◌∙◌}
-use Prim.Native.Nat.{◌*◌, ◌/◌, ◌<◌}
+use mathlib.Core.Path.{◌≡◌, refl, sym, ap, ◌∙◌}
+use Prim.Native.Nat.{◌*◌, ◌/◌}
+use native.Mathlib.Nat.{le_of_eq}
 use native.Mathlib.Omega.{arith}
 use borrow.Author.Rules.{rules}
-use lib.ListN.{length}
+use lib.ListN.{length, length-set}
+use lib.Seq.{take_all}
+use Rattle.std.proofs.lemmas.List.{length-take-le}
+use Rattle.lists.specs.Lists.{tabulate}
+use Rattle.lists.proofs.ByIndex.{fill_next}
 use Rattle.signed.specs.Signed.{of_twos}
 use Rattle.signed.proofs.Laws.{back16}
-use Rattle.wav_samples.proofs.Samples.{loaded_none, loaded_next, two_bytes_at, too_short, all_loaded}
+use Rattle.wav_format.specs.Samples.{samples_of}
+use Rattle.wav_samples.proofs.Samples.{two_bytes_at, too_short, all_loaded}
 use Rattle.wav_samples.proofs.load_samples.Goals as goal
 
 pub returns-then-out-n : goal.returns-then-out-n
 returns-then-out-n c = too_short _ _ c.if-out-n.true
 
 pub loop-i-init : goal.loop-i-init
-loop-i-init c = loaded_none _ _
+unfolding tabulate
+loop-i-init c = (length-take-le _ _ c.if-out-n.false, refl)
 
 pub loop-i-preserved : goal.loop-i-preserved
-loop-i-preserved c = let bytes = c.args.bytes.now in
+loop-i-preserved c =
     let i = c.loop-i.i in
-    let here : i < length c.loop-i.out = omega arith in
-    let sample = ap of_twos (two_bytes_at bytes (2 * i) (omega arith)) in
-    loaded_next bytes c.args.out.now c.loop-i.out i _ here (back16 _ (search rules) ∙ c.sample_of.ensures ∙ sample) c.loop-i.invariant
+    let sample = ap of_twos (two_bytes_at c.args.bytes.now (2 * i) (omega (arith, c.loop-i.invariant.0))) in
+    (simp length-set c.loop-i.invariant.0, fill_next _ _ i _ (omega (arith, c.loop-i.invariant.0)) c.loop-i.invariant.1 (back16 _ (search rules) ∙ c.sample_of.ensures ∙ sample))
 
 pub returns : goal.returns
-returns c = let all : c.loop-i.i ≡ length c.args.bytes.now / 2 = omega arith in all_loaded _ _ c.if-out-n.false _ (rw (← all) c.loop-i.invariant)
+unfolding samples_of
+returns c =
+    let full = c.loop-i.invariant.0 in
+    let all : c.loop-i.i ≡ length c.args.bytes.now / 2 = omega (arith, full) in
+    all_loaded _ _ c.if-out-n.false _ (sym (take_all _ _ (le_of_eq full)) ∙ (rw all at c.loop-i.invariant.1))
