@@ -14,8 +14,7 @@ pub const HEADER_SIZE: usize = 16;
 fn frame_count(h: Header) -> usize
     ensures { (result ≡ frames h) × (result ≤ h.samples) }
 {
-    let whole = h.coding().frame_samples();
-    (h.samples as usize + (whole - 1)) / whole
+    (h.samples as usize).div_ceil(h.coding().frame_samples())
 }
 
 // Samples per channel of frame `f`, 0 past the last frame.
