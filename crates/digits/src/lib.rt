@@ -30,7 +30,8 @@ fn pow2(n: usize) -> u64
     1u64 << n
 }
 
-// Internal: the code of `bits` bits at place `at`. It lies in two bytes that follow each other. Past the end it is 0.
+// Internal: the code of `bits` bits at place `at`. It lies in two bytes that follow each other. Past the end it is 0. No function calls it:
+// it is the reference Rust's `unpack_code`, the plain rule of one code, `code_at`, of which the law `code_packed` speaks.
 #[tactic(auto, using(crate::proofs::Laws::window, crate::proofs::Laws::bits_lt))]
 pub fn unpack_code(payload: &[u8], at: usize, bits: usize) -> u8
     requires { (bits ≤ 8) × (at < 2 ^ 32) }
@@ -94,7 +95,8 @@ pub fn unused_bits_zero(payload: &[u8], used: usize) -> bool
     after.iter().all(|&byte| byte == 0) && at_or_zero(payload, k) / pow2(used % 8) == 0
 }
 
-// Internal: the little-endian number in the N bytes from `at` on.
+// Internal: the little-endian number in the N bytes from `at` on. One function and one law for every width: std's `from_le_bytes` is one
+// for each, and takes an array.
 pub fn le<const N: usize>(s: &[u8], at: usize) -> u64
     requires { (N ≤ 8) × (at + N ≤ length s.now) }
     ensures { (result ≡ field N at s.now) × (result < 2 ^ (8 * N)) }
@@ -104,7 +106,7 @@ pub fn le<const N: usize>(s: &[u8], at: usize) -> u64
     u64::from_le_bytes(bytes)
 }
 
-// Internal: the low N bytes of `x`, little-endian, in the N bytes from `at` on. The rest stays.
+// Internal: the low N bytes of `x`, little-endian, in the N bytes from `at` on. The rest stays. One for every width, as `le`.
 #[tactic(auto, using(crate::proofs::Laws::part_put, crate::proofs::StdBytes::low_digits))]
 pub fn put_le<const N: usize>(out: &mut [u8], at: usize, x: u64)
     requires { (N ≤ 8) × (at + N ≤ length out.old) }

@@ -46,8 +46,8 @@ fn put_header(out: &mut [u8], h: Header)
     out[..layout::HEADER_SIZE].copy_from_slice(&header_bytes(h));
 }
 
-// Internal: n samples of one channel, from sample `first` of it on, at the front of 63 places, since the codec uses no heap; sample w
-// lies at (first + w) * channels + channel.
+// Internal: n samples of one channel, from sample `first` of it on, at the front of 63 places; sample w lies at
+// (first + w) * channels + channel. An array, as in `trial`: the caller has n.
 fn gather(pcm: &[i16], first: usize, channels: usize, channel: usize, n: usize) -> [i16; 63]
     requires { (n ≤ 63) × (channel < channels) × ((first + n) * channels ≤ length pcm.now) }
     ensures { take n result ≡ tabulate (λ w. get_or pcm.now ((first + w) * channels + channel) (pos 0)) n }
@@ -122,7 +122,7 @@ pub fn encode(
     Ok(needed)
 }
 
-// The same, with the reference Rust's parameters. It stays beside `encode` since the calls for C use it.
+// The same, by the reference Rust's name and with its parameters: README and DECISIONS name it as an entry point.
 pub fn encode_interleaved(
     pcm: &[i16],
     channels: u8,
