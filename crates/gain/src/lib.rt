@@ -29,12 +29,13 @@ fn quotient(m: u16, gain: u8, half: u32) -> u16
     }
 }
 
-// Internal: x * gain / 255 on the magnitude, the sign kept: cut toward zero where `half` is 0, to nearest where it is 127.
+// Internal: x * gain / 255 on the magnitude, the sign kept: cut toward zero where `half` is 0, to nearest where it is 127. `half` is a
+// number and not an enum of the two roundings, since it is what is added before the division, and the contract holds for each up to 127.
 pub fn scaled(x: i16, gain: u8, half: u32) -> i16
     requires { half ≤ 127 }
     ensures { result ≡ with_sign (is_neg x) ((unsigned_abs x * gain + half) / 255) }
 {
-    signed::with_sign16(x < 0, quotient(x.unsigned_abs(), gain, half))
+    signed::with_sign(x < 0, quotient(x.unsigned_abs(), gain, half) as u32) as i16
 }
 
 // Pre-gain: sample * gain / 255, cut toward zero.
@@ -48,11 +49,11 @@ pub fn pre_gain(sample: i16, gain: u8) -> i16
 pub fn peak_of(samples: &[i16]) -> u16
     ensures { (result ≡ peak samples.now (length samples.now)) × (result ≤ 32768) }
 {
-    let mut top = 0;
-    for sample in samples {
-        top = sample.unsigned_abs().max(top);
-    }
-    top
+    samples
+        .iter()
+        .map(|sample| sample.unsigned_abs())
+        .max()
+        .unwrap_or(0)
 }
 
 // Internal: the least volume whose full scale covers the peak, at most 255.
@@ -61,7 +62,7 @@ fn volume_of(peak: u16) -> u8
     ensures { result ≡ volume_of peak }
 {
     let peak = peak as u32;
-    ((peak * 255 + 32766) / 32767).min(255) as u8
+    (peak * 255).div_ceil(32767).min(255) as u8
 }
 
 // The volume of a fragment, from its pre-gained samples.

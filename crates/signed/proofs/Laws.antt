@@ -3,13 +3,13 @@ use mathlib.Core.Path.{◌≡◌, refl}
 use mathlib.Core.Bool.{Bool, true, false, not, cond}
 use lib.Dec.{T, leb}
 use native.Mathlib.Nat.{zero-div, le_trans, mul-le-mul_left, mul-le-mul_right}
-use Prim.Native.Nat.{ℕ, zero, suc, ◌*◌, ◌/◌, ◌<◌, ◌≤◌, ◌^◌}
+use Prim.Native.Nat.{ℕ, zero, suc, ◌*◌, ◌/◌, ◌<◌, ◌≤◌, ◌^◌, min}
 use native.Mathlib.Omega.{arith}
 use lib.IntN.{ℤ, pos, negsuc, neg_ℤ, nat_abs, ◌-ℤ◌, ◌*ℤ◌}
 use lib.Signed.{mag, lt_z, quot_z}
 use mir.Syntax.{w16, w32}
 use mir.Val.{to_z, of_z}
-use Rattle.std.specs.Int.{int_min, int_max}
+use Rattle.std.specs.Int.{int_min, int_max, saturate_unsigned}
 use Rattle.std.proofs.lemmas.Int.{ints, clamps}
 use Rattle.std.proofs.lemmas.Bool.Decides.{nat_tests}
 use Rattle.signed.specs.Signed.{is_neg, with_sign, on_magnitude, clamp16, clamp_to, depth}
@@ -104,6 +104,11 @@ pub clamp_to_is : (top : ℕ) (z : ℤ) → int_max (pos 0) (int_min z (pos top)
 unfolding clamp_to
 clamp_to_is top (pos n) = omega (arith, ints, clamps)
 clamp_to_is top (negsuc n) = refl
+
+pub saturated_to : (top : ℕ) (z : ℤ) → top < 2 ^ 32 → min (saturate_unsigned w32 z) top ≡ clamp_to top z
+unfolding clamp_to
+saturated_to top (pos n) h = omega arith
+saturated_to top (negsuc n) h = omega arith
 
 pub clamp_fits : (z : ℤ) → mag (clamp16 z) ≤ 32767
 unfolding clamp16

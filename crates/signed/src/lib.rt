@@ -1,5 +1,6 @@
 // Signed numbers by sign and magnitude, the clamps, and the two bytes of a 16-bit sample. Of the codec's crates this alone adds, subtracts
-// and negates signed numbers; the others compare and cast them, and take magnitudes and distances.
+// and negates signed numbers; the others compare and cast them, and take magnitudes and distances. `clamp16`, `sample_of` and
+// `sample_bytes` are std's bodies under the names by which the rules call them.
 #![tactic(auto)]
 
 ghost use Rattle.std.specs.Prelude.{◌≡◌, ◌+◌, ◌-◌, ◌*◌, ◌<◌, ◌≤◌, ◌^◌, pos, nat_abs, ◌+ℤ◌, ◌-ℤ◌};
@@ -15,14 +16,6 @@ pub fn with_sign(negative: bool, m: u32) -> i32
 {
     let x = m as i32;
     if negative { -x } else { x }
-}
-
-// Internal: the same in 16 bits.
-pub fn with_sign16(negative: bool, m: u16) -> i16
-    requires { mag (with_sign negative m) ≤ 32767 }
-    ensures { result ≡ with_sign negative m }
-{
-    with_sign(negative, m as u32) as i16
 }
 
 // Internal: the number with magnitude m and the sign of x.
@@ -51,12 +44,11 @@ pub fn add_clamp16(x: i32, y: i32) -> i32
 }
 
 // Internal: the sum, clamped to 0..=top.
-#[tactic(auto, using(crate::proofs::Laws::clamp_to_is, crate::proofs::Laws::up32))]
+#[tactic(auto, using(crate::proofs::Laws::saturated_to))]
 pub fn add_clamp_to(x: u32, y: i32, top: u32) -> u32
-    requires { (x + nat_abs y < 2 ^ 31) × (top < 2 ^ 31) }
     ensures { result ≡ clamp_to top (pos x +ℤ y) }
 {
-    (x as i32 + y).clamp(0, top as i32) as u32
+    x.saturating_add_signed(y).min(top)
 }
 
 // Internal: a number of 16 bits, raised to 0..=65535. It comes in 32 bits, as the predictor of a state does, which is laid out for C.
