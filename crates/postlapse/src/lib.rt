@@ -9,7 +9,7 @@ ghost use Rattle.format.specs.Answers.{answered};
 ghost use Rattle.wav_format.specs.Samples.{samples_call};
 ghost use Rattle.wav_format.specs.Wave.{read_wave, read_strict};
 ghost use Rattle.wav_writer.specs.Writer.{write_call};
-ghost use Rattle.postlapse.specs.Answers.{answer_of, header_answer_of, wave_answer_of};
+ghost use Rattle.postlapse.specs.Answers.{answer_of, header_answer_of, wave_answer_of, with_state};
 ghost use Rattle.postlapse.specs.Promises.{encode_for_c, fragment_for_c, Fills, Decodes, Plays, PlaysAs, PlaysByValue};
 
 use format::{Error, Header, State, Variant};
@@ -18,7 +18,8 @@ use outcome::{Refusal, Values};
 use wav_format::Wave;
 
 // A count, or a refusal: 0 and how many bytes or samples were written; or the number in 01's table and its returned numbers, 0 where
-// there are none. These structs are laid out for C, which has no Result: the refusal stands as a number.
+// there are none. These structs are laid out for C, which has no Result: the refusal stands as a number, and each has all its numbers
+// side by side, as postlapse.h names them.
 #[repr(C)]
 #[derive(Clone, Copy, Default)]
 pub struct Answer {
@@ -154,6 +155,19 @@ impl<E: Refusal> From<Result<Wave, E>> for WaveAnswer {
     }
 }
 
+impl From<Returned<Answer>> for FragmentAnswer {
+    ghost from_gives = { λ given answer. answer ≡ with_state given.answer given.state };
+
+    fn from(given: Returned<Answer>) -> FragmentAnswer {
+        FragmentAnswer {
+            refusal: given.answer.refusal,
+            first: given.answer.first,
+            predictor: given.state.predictor,
+            index: given.state.index,
+        }
+    }
+}
+
 // ---- the calls
 
 // Encodes at the variant that a byte names.
@@ -242,13 +256,10 @@ pub fn postlapse_decode_fragment(
         (record { predictor = predictor; index = index }) out.old result out.new }
 {
     let played = play(version, variant, State { predictor, index }, fragment, out);
-    let answer = Answer::from(played.answer);
-    FragmentAnswer {
-        refusal: answer.refusal,
-        first: answer.first,
-        predictor: played.state.predictor,
-        index: played.state.index,
-    }
+    FragmentAnswer::from(Returned {
+        answer: Answer::from(played.answer),
+        state: played.state,
+    })
 }
 
 // The same with the channel's state lent: predictor and index are stored where the call changes them, and else nothing is.

@@ -7,7 +7,7 @@ use std::io;
 use std::io::Read;
 use text::Printer;
 
-// The most bytes of a question.
+// The most bytes of a question. There is no heap: a question and an answer lie at the front of arrays, their sizes beside them.
 const QUESTION: usize = READ + 1;
 
 // The bytes of a record's four sizes.

@@ -163,7 +163,8 @@ impl Refusal for Lent {
     }
 }
 
-// How many samples the answer for C gives, or why it refuses. 7 and 8 return a number, and the fragment decoder's other refusals none.
+// How many samples an answer for C gives, which has its refusal as a number, or why it refuses. 7 and 8 return a number, and the fragment
+// decoder's other refusals none.
 fn lent_count(answer: Answer) -> Result<usize, Lent> {
     let values = match answer.refusal {
         0 => return Ok(answer.first),
@@ -191,7 +192,8 @@ fn play_lent(fragment: Fragment, pcm: &mut [i16], answer: &mut Printer) -> Resul
 }
 
 // Kind 7: version, variant, count, state, a fragment. A result: 1, the state after it, and the samples. It is asked by value and with
-// the state lent; where the two answers differ, it has none.
+// the state lent; where the two answers differ, it has none. `replay_calls` does the same over its own room: they share the comparison
+// alone.
 fn ask_fragment_decoder(question: Question, answer: &mut Printer) -> Option<()> {
     let fragment = question.fragment();
     let count = fragment.count as usize;

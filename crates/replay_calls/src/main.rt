@@ -27,7 +27,7 @@ fn filled<T: PartialEq + Copy>(places: &[T], count: usize, before: T) -> Option<
     rest.iter().all(|place| *place == before).then_some(first)
 }
 
-// How many places an answer says that the call has filled.
+// How many places an answer says that the call has filled. An answer for C has its refusal as a number.
 fn filled_count(a: Answer) -> usize {
     if a.refusal == 0 { a.first } else { 0 }
 }
@@ -40,7 +40,8 @@ fn put_numbers(answer: &mut Printer, a: Answer) -> usize {
     filled_count(a)
 }
 
-// Puts the numbers of an answer, and its header.
+// Puts the numbers of an answer, and its header. Here and in `play` the numbers are taken from the struct for C by hand: a conversion
+// in postlapse would serve this program alone.
 fn put_header(answer: &mut Printer, a: HeaderAnswer) -> usize {
     put_numbers(
         answer,
@@ -63,7 +64,7 @@ fn put_played(answer: &mut Printer, a: Answer, state: State) -> usize {
     count
 }
 
-// Loads the samples of a question's bytes; none where they are too many.
+// Loads the samples of a question's bytes by the call for C, where `replay` has that of Rust; none where they are too many.
 fn load<'a>(bytes: &[u8], pcm: &'a mut [i16]) -> &'a [i16] {
     let count = filled_count(postlapse::postlapse_load_samples(bytes, pcm));
     front(pcm, count)
