@@ -26,7 +26,7 @@ pub fn take_off(threshold: u32, d: u32) -> u32
     d.min(d.wrapping_sub(threshold))
 }
 
-// The H code for a normalised sample.
+// The H code for a normalised sample. Its bits 4, 2, 1 and 8 are written in one form, that of 1 too.
 fn h_code(state: Reached, input: i16) -> u8
     ensures { (result ≡ h_code state.state input) × (result < 16) }
 {
@@ -43,7 +43,8 @@ fn h_code(state: Reached, input: i16) -> u8
     code as u8
 }
 
-// The L or L+ code for a normalised sample: the lowest of eight whose clamped result is nearest.
+// The L or L+ code for a normalised sample: the lowest of eight whose clamped result is nearest. A loop and not `min_by_key`: that one says
+// only turn by turn that the first of equal errors stays, std has no lemma to the whole list, and the empty range would be answered too.
 fn l_code(variant: Variant, state: Reached, input: i16) -> u8
     ensures { (result ≡ l_code variant state.state input) × (result < 8) }
 {
