@@ -39,25 +39,25 @@ module _ (k : Settings) (v : ℕ) (xs : List ℤ) where
 
   -- the starts of the turns before this one are tried; none of them beats b, and b is the lowest of the best
   pub record Leading (turn : ℕ) (b : Best) : Type 0 where
-    pub start : b.index ≤ 88
+    pub start : b.found.index ≤ 88
     pub ran : Ran k v xs b
-    pub least : (t : ℕ) → t < turn → b.sum ≤ sum_from (start_at t)
-    pub lowest : (t : ℕ) → t < turn → start_at t < b.index → b.sum < sum_from (start_at t)
+    pub least : (t : ℕ) → t < turn → b.found.sum ≤ sum_from (start_at t)
+    pub lowest : (t : ℕ) → t < turn → start_at t < b.found.index → b.found.sum < sum_from (start_at t)
 
   pub leading_all : {turn : ℕ} {b : Best} → Leading turn b → 93 ≤ turn
-      → (b.index ≡ (best_trial k v xs).start) × (b.sum ≡ (best_trial k v xs).sum)
+      → (b.found.index ≡ (best_trial k v xs).start) × (b.found.sum ≡ (best_trial k v xs).sum)
   unfolding best_trial
   leading_all {turn} {b} d h =
-      (sym (ap (λ (t : Trial). t.start) e ∙ trial_start k v xs b.index (length xs)), d.ran.sum ∙ sym (ap (λ (t : Trial). t.sum) e))
+      (sym (ap (λ (t : Trial). t.start) e ∙ trial_start k v xs b.found.index (length xs)), d.ran.sum ∙ sym (ap (λ (t : Trial). t.sum) e))
     where
-      least : (j : ℕ) → j ≤ 88 → b.sum ≤ sum_from j
+      least : (j : ℕ) → j ≤ 88 → b.found.sum ≤ sum_from j
       least j m = rw start_late at (d.least (j + 4) (omega arith))
 
-      lowest : (j : ℕ) → j < b.index → b.sum < sum_from j
+      lowest : (j : ℕ) → j < b.found.index → b.found.sum < sum_from j
       lowest j m = rw start_late at (d.lowest (j + 4) (omega (arith, d.start)) (rw start_late m))
 
-      e : best_trial k v xs ≡ trial_to k v xs b.index (length xs)
+      e : best_trial k v xs ≡ trial_to k v xs b.found.index (length xs)
       e =
-          least_at (λ (t : Trial). t.sum) (λ index. trial_to k v xs index (length xs)) 88 b.index d.start
+          least_at (λ (t : Trial). t.sum) (λ index. trial_to k v xs index (length xs)) 88 b.found.index d.start
           (λ j m. omega (arith, least j m, d.ran.sum))
           (λ j m. omega (arith, lowest j m, d.ran.sum))

@@ -80,26 +80,26 @@ module _ (k : Settings) (v : ℕ) (xs : List ℤ) where
         traced_more d (omega arith) ek (summed_more k v xs index d.summed h refl y es eq hq)
 
     -- the sum so far is at most the whole
-    pub stopped : {i sum : ℕ} {s : State} {trace : List Mark} {b : Best} → Traced index i s sum trace → b.sum + tie index b.index ≤ sum
+    pub stopped : {i sum : ℕ} {s : State} {trace : List Mark} {b : Best} → Traced index i s sum trace → b.found.sum + tie index b.found.index ≤ sum
         → Beaten k v xs index b
     stopped d h = record { over = omega (arith, over_limit _ _ _ _ d.summed) }
 
   -- ---- the marks of the best trial
 
-  mark_at : {b : Best} (d : Mark) → Ran k v xs b → (i : ℕ) → i < length xs → get_or b.marks i d ≡ mark_of (trial_to k v xs b.index i)
+  mark_at : {b : Best} (d : Mark) → Ran k v xs b → (i : ℕ) → i < length xs → get_or b.marks i d ≡ mark_of (trial_to k v xs b.found.index i)
   unfolding marks_of
   mark_at {b} d r i h =
       sym (get_or-take (length xs) b.marks i d h)
       ∙ ap (λ (l : List Mark). get_or l i d) r.marked
-      ∙ get_d_tabulate (λ j. mark_of (trial_to k v xs b.index j)) (length xs) i d h
+      ∙ get_d_tabulate (λ j. mark_of (trial_to k v xs b.found.index j)) (length xs) i d h
 
   -- met at i samples
   pub met : {b : Best} {index i key' : ℕ} {s : State} {sum : ℕ} (d : Mark) → Ran k v xs b → Summed k v xs index i s sum → i < length xs → key' ≡ key s
-      → (get_or b.marks i d).key ≡ key' → (get_or b.marks i d).sum + tie index b.index ≤ sum → Beaten k v xs index b
+      → (get_or b.marks i d).key ≡ key' → (get_or b.marks i d).sum + tie index b.found.index ≤ sum → Beaten k v xs index b
   met {b} {index} {i} {key'} {s} {sum} d r t h ek e l =
       let m = mark_at d r i h in
-      let ed : key (trial_to k v xs index i).state ≡ key (trial_to k v xs b.index i).state = ap key (sym t.state) ∙ sym ek ∙ sym e ∙ ap (λ (m : Mark). m.key) m in
-      let es = key-same (trial_to k v xs index i).state (trial_to k v xs b.index i).state (trial_range index i) (trial_range b.index i) ed in
+      let ed : key (trial_to k v xs index i).state ≡ key (trial_to k v xs b.found.index i).state = ap key (sym t.state) ∙ sym ek ∙ sym e ∙ ap (λ (m : Mark). m.key) m in
+      let es = key-same (trial_to k v xs index i).state (trial_to k v xs b.found.index i).state (trial_range index i) (trial_range b.found.index i) ed in
       let f : length xs - i + i ≡ length xs = omega arith in
-      let w = rw f at (alike index b.index i es (length xs - i)).1 in
+      let w = rw f at (alike index b.found.index i es (length xs - i)).1 in
       record { over = omega (arith, ap (λ (m : Mark). m.sum) m, t.total, r.sum) }

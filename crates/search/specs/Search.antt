@@ -21,9 +21,9 @@ marks_of k v xs index n = tabulate (λ i. mark_of (trial_to k v xs index i)) n
 
 -- a trial from its start index, run to its end
 pub record Ran (k : Settings) (v : ℕ) (xs : List ℤ) (b : Best) : Type 0 where
-  pub sum : b.sum ≡ (trial_to k v xs b.index (length xs)).sum
-  pub small : b.sum < 2 ^ 38
-  pub marked : take (length xs) b.marks ≡ marks_of k v xs b.index (length xs)
+  pub sum : b.found.sum ≡ (trial_to k v xs b.found.index (length xs)).sum
+  pub small : b.found.sum < 2 ^ 38
+  pub marked : take (length xs) b.marks ≡ marks_of k v xs b.found.index (length xs)
 
 -- what is added to the best sum, so that the sums below it win: at a start below the best's a tie wins
 abbrev pub tie : ℕ → ℕ → ℕ
@@ -31,12 +31,12 @@ tie index best = cond (ltb index best) 1 0
 
 -- the trial from a start index does not win against the best
 pub record Beaten (k : Settings) (v : ℕ) (xs : List ℤ) (index : ℕ) (b : Best) : Type 0 where
-  pub over : b.sum + tie index b.index ≤ (trial_to k v xs index (length xs)).sum
+  pub over : b.found.sum + tie index b.found.index ≤ (trial_to k v xs index (length xs)).sum
 
 -- another trial wins
 pub record Beats (k : Settings) (v : ℕ) (xs : List ℤ) (b other : Best) : Type 0 where
   pub ran : Ran k v xs other
-  pub less : other.sum < b.sum + tie other.index b.index
+  pub less : other.found.sum < b.found.sum + tie other.found.index b.found.index
 
 -- the start of each turn: four bounds, the loudest first, then all
 unfoldable pub start_at : ℕ → ℕ

@@ -42,11 +42,10 @@ pub struct Found {
     pub sum: u64,
 }
 
-// The best trial so far: its start index, its sum, and where it stood before each sample.
+// The best trial so far: its start index and its sum, and where it stood before each sample.
 #[derive(Clone, Copy)]
 struct Best {
-    index: u8,
-    sum: u64,
+    found: Found,
     marks: [Mark; 63],
 }
 
@@ -109,7 +108,7 @@ fn is_tried(turn: u8, index: u8) -> bool
 impl<'a> Fragment<'a> {
     // The sum of the trial from a start index. Where it stood before each sample is left in `trace`.
     fn whole_sum(&self, index: u8, trace: &mut [Mark; 63]) -> u64
-        ensures { Ran self.now.coder.now.settings self.now.volume self.now.xs.now (record { index = index; sum = result; marks = trace.new }) }
+        ensures { Ran self.now.coder.now.settings self.now.volume self.now.xs.now (record { found = record { index = index; sum = result }; marks = trace.new }) }
     {
         let mut state = Reached::fragment_start(index);
         let mut sum: u64 = 0;
@@ -131,10 +130,10 @@ impl<'a> Fragment<'a> {
     fn winning_sum(&self, index: u8, best: &Best, trace: &mut [Mark; 63]) -> Option<u64>
         requires { Ran self.now.coder.now.settings self.now.volume self.now.xs.now best.now }
         ensures { MatchOption result (Beaten self.now.coder.now.settings self.now.volume self.now.xs.now index best.now)
-            (λ sum. Beats self.now.coder.now.settings self.now.volume self.now.xs.now best.now (record { index = index; sum = sum; marks = trace.new })) }
+            (λ sum. Beats self.now.coder.now.settings self.now.volume self.now.xs.now best.now (record { found = record { index = index; sum = sum }; marks = trace.new })) }
     {
-        let tie = tie(index, best.index);
-        let limit = best.sum + tie;
+        let tie = tie(index, best.found.index);
+        let limit = best.found.sum + tie;
         let mut state = Reached::fragment_start(index);
         let mut sum: u64 = 0;
         for (i, x) in self.xs.iter().enumerate() {
@@ -162,8 +161,7 @@ impl<'a> Fragment<'a> {
         let index = start_of(0);
         let sum = self.whole_sum(index, &mut trace);
         let mut best = Best {
-            index,
-            sum,
+            found: Found { index, sum },
             marks: trace,
         };
         for turn in 1..93u8 {
@@ -173,15 +171,11 @@ impl<'a> Fragment<'a> {
             }
             if let Some(sum) = self.winning_sum(index, &best, &mut trace) {
                 best = Best {
-                    index,
-                    sum,
+                    found: Found { index, sum },
                     marks: trace,
                 };
             }
         }
-        Found {
-            index: best.index,
-            sum: best.sum,
-        }
+        best.found
     }
 }
