@@ -80,16 +80,11 @@ decoding_none h d o z e = record { out_is = refl; states_long = refl; states_are
     at (suc (suc k)) l y = absurd (omega arith)
 
 module _ {h : Header} {d : List ℕ} {o : List ℤ} {p : ℕ} {out : List ℤ} {states : List Reached} (t : Decoding h d o p out states) where
-  pub length_decoding : length out ≡ length o
-  length_decoding = ap length t.out_is ∙ length-out_after (pos 0) h.channels (whole_frame h) h.samples (loop_samples h d start_states) o p
 
   -- a turn more
   module _ (hc : 0 < h.channels) (few : h.channels ≤ 2) where
     one : p % h.channels < 2
     one = omega (arith, mod-lt p hc)
-
-    pub state_found : (z : Reached) → (get_or states (p % h.channels) z).state ≡ get_or (loop_states h d start_states p) (p % h.channels) zero_state
-    state_found z = t.states_are (p % h.channels) one z
 
     pub decoding_more : (xs : List ℤ) (r : Reached) → r.state ≡ (place_decoded h d p (get_or (loop_states h d start_states p) (p % h.channels) zero_state)).state
         → take (count h (p / h.channels)) xs ≡ loop_samples h d start_states p

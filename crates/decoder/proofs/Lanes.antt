@@ -23,19 +23,6 @@ pub record Taken (c p n k : ℕ) (states before : List Reached) : Type 0 where
   pub long : length before ≡ n
   pub each : (j : ℕ) → j < k → (z : Reached) → get_or before j z ≡ get_or states ((p + j) % c) z
 
-module _ {c p n : ℕ} {states before : List Reached} where
-  pub taken_none : length before ≡ n → Taken c p n 0 states before
-  taken_none e = record { long = e; each = λ j l z. absurd (omega arith) }
-
-  pub taken_more : {k : ℕ} {r : Reached} → Taken c p n k states before → k < n → (p + k) % c < length states → r ≡ get_or states ((p + k) % c) r
-      → Taken c p n (k + 1) states (set before k r)
-  taken_more {k} {r} t l m is =
-      record { long = simp length-set t.long; each = λ j q z. go j z (ℕ_discrete j k) (omega arith) }
-    where
-      go : (j : ℕ) (z : Reached) → Dec (j ≡ k) → j ≤ k → get_or (set before k r) j z ≡ get_or states ((p + j) % c) z
-      go j z (yes e) q = rw (e, get_or-set_same before k r z (omega (arith, t.long))) (get_or_read states ((p + k) % c) r m is z)
-      go j z (no e) q = rw (get_or-set_other before k j r z e) (t.each j (omega arith) z)
-
 module _ {h : Header} {d : List ℕ} {o : List ℤ} {p n : ℕ} (step : InStep h p n) (hc : 0 < h.channels) (few : h.channels ≤ 2) where
   -- one of them: its fragment is played from the state that its channel had before them all
   pub lane_more : {out₀ out : List ℤ} {states₀ states : List Reached} {k : ℕ} → Decoding h d o p out₀ states₀ → Decoding h d o (p + k) out states → k < n

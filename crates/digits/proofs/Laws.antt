@@ -281,9 +281,6 @@ stored-field n at bytes small h =
 
 -- the part from `at` to `at + len`, whose length a lent part has as its end less its start
 module _ (at len : ℕ) (l : List ℕ) where
-  pub part_length : at + len ≤ length l → length (take (at + len - at) (drop at l)) ≡ len
-  part_length h = rw add-sub_cancel_left (length-take-le len (drop at l) (simp length-drop (omega arith)))
-
   pub part_put : {v w : List ℕ} → v ≡ w → take at l ++ (v ++ drop (at + len - at) (drop at l)) ≡ take at l ++ w ++ drop (at + len) l
   part_put {v} {w} e = rw (add-sub_cancel_left at len, drop-drop len at l, e) (sym (append_assoc (take at l) w (drop (at + len) l)))
 

@@ -3,11 +3,11 @@
 use mathlib.Core.Path.{◌≡◌, refl, sym, ap, ◌∙◌}
 use mathlib.Core.List.{List, [], ◌∷◌}
 use Prim.Native.Nat.{ℕ, zero, suc, ◌+◌, ◌*◌, ◌/◌, ◌%◌, ◌^◌, ◌≤◌, ◌<◌}
-use native.Mathlib.Nat.{mul-zero, mul-one, mul-add, mul_assoc, mul_comm, add-mul, add-zero, add_comm, div-one, mod-lt}
+use native.Mathlib.Nat.{mul-zero, mul-one, mul-add, mul_assoc, mul_comm, add-mul, add_comm, div-one, mod-lt}
 use native.Mathlib.Numerals.{add-one}
 use native.Mathlib.Omega.{arith}
 use lib.ListN.{length, get_or, take, drop, set, length-set}
-use lib.Seq.{take-suc-set, take_all, drop-drop, get_or-drop}
+use lib.Seq.{take-suc-set, drop-drop}
 use lib.Pow.{pow_pos, pow-add, shr_lt, shr-shr, split, high, low}
 use lib.Arith.{digits_lt}
 use denote.Bor.{Bor}
@@ -139,10 +139,6 @@ unfolding digits
 regrouped_none a b ds e = record { within = omega arith; long = e; written = refl; held = held_none a b ds }
 
 module _ {a b n : ℕ} {ds out : List ℕ} {acc have i j : ℕ} (r : Regrouped a b ds n out acc have i j) where
-  -- what is held fits
-  pub regrouped_lt : acc < 2 ^ have
-  regrouped_lt = r.held.fits
-
   -- a group of g digits is read, as one number
   pub regrouped_read : Small a ds → (g : ℕ) {x : ℕ} → x ≡ acc + number a (take g (drop i ds)) * 2 ^ have
       → Regrouped a b ds n out x (have + a * g) (i + g) j
@@ -153,11 +149,6 @@ module _ {a b n : ℕ} {ds out : List ℕ} {acc have i j : ℕ} (r : Regrouped a
     held = rw (drop-drop g i ds) at (held_read r.held g (small_drop a ds small i) e);
   }
 
-  -- a digit is read
-  pub regrouped_digit : Small a ds → {x : ℕ} → x ≡ acc + get_or ds i 0 * 2 ^ have → Regrouped a b ds n out x (have + a) (i + 1) j
-  regrouped_digit small {x} e =
-      rw mul-one at (regrouped_read small 1 {x = x} (rw (number_one a (drop i ds), get_or-drop i ds 0 0, add-zero i) e))
-
   -- a digit is written, and the rest is held
   pub regrouped_write : {rest x y : ℕ} → have ≡ rest + b → j < n → x ≡ acc % 2 ^ b → y ≡ acc / 2 ^ b
       → Regrouped a b ds n (set out j x) y rest i (j + 1)
@@ -167,8 +158,3 @@ module _ {a b n : ℕ} {ds out : List ℕ} {acc have i j : ℕ} (r : Regrouped a
     written = written_more b (number a ds) out r.written (omega (arith, r.long)) (low ∙ held_low r.held rest e);
     held = held_high r.held rest e high;
   }
-
-  pub regrouped_all : n ≤ j → out ≡ digits b n (number a ds)
-  regrouped_all h =
-      let e : j ≡ n = omega (arith, r.within) in
-      rw e at (sym (take_all j out (omega (arith, r.long))) ∙ r.written)

@@ -1,10 +1,10 @@
 -- States stay in range, and a fragment decoder call that the table does not refuse. Assumes nothing.
 use mathlib.Core.Path.{◌≡◌, refl, sym, ◌∙◌}
-use mathlib.Core.Bool.{Bool, true, false, cond, ◌&&◌}
+use mathlib.Core.Bool.{Bool, true, false, cond}
 use mathlib.Core.List.{List, [], ◌∷◌}
-use Prim.Native.Nat.{ℕ, zero, suc, ◌≤◌, ◌<◌}
+use Prim.Native.Nat.{ℕ, zero, suc, ◌≤◌}
 use native.Mathlib.Omega.{arith}
-use borrow.Author.Tests.{le-leb, lt-leb, leb-true, eq-eqb, eqb-true, not-false}
+use borrow.Author.Tests.{le-leb, leb-true, eq-eqb, eqb-true, not-false}
 use lib.Dec.{leb, eqb}
 use lib.Signed.{mag}
 use lib.ListN.{length, get_or}
@@ -121,11 +121,6 @@ unmoved version variant s fragment n = go (known_version version) (fragment_fits
 
 -- ---- what the checks tell
 
--- version 3 is the last known one
-pub known_three : (version : ℕ) → known_version version ≡ true → 3 ≤ version → version ≡ 3
-unfolding known_version
-known_three version k h = let l = leb-true version 3 (both_right (leb 1 version) (leb version 3) k) in omega arith
-
 -- the fragment has its size, and the output is not too long
 pub fits_size : (version : ℕ) (variant : Variant) (fragment : List ℕ) (n : ℕ) → fragment_fits version variant fragment n ≡ true
     → (length fragment ≡ fragment_size version variant) × (n ≤ frame_samples version)
@@ -134,13 +129,3 @@ fits_size version variant fragment n e = (
   eqb-true _ _ (both_left _ _ e),
   leb-true _ _ (both_right (eqb (length fragment) (fragment_size version variant)) _ e),
 )
-
--- in versions 1, 2 a state that fits is in range
-pub fits_range : (version : ℕ) (s : State) → version < 3 → state_fits version s ≡ true → InRange s
-unfolding state_fits
-fits_range version s h e =
-    let f : (leb (mag s.predictor) 32767 && leb s.index 88) ≡ true = rw (lt-leb 3 version h) at e in
-    record {
-      predictor = leb-true _ _ (both_left _ _ f);
-      index = leb-true _ _ (both_right (leb (mag s.predictor) 32767) _ f);
-    }

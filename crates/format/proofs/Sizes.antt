@@ -2,7 +2,7 @@
 use mathlib.Core.Path.{◌≡◌, refl}
 use mathlib.Core.Bool.{Bool, true, false, cond}
 use mathlib.Core.List.{List}
-use Prim.Native.Nat.{ℕ, ◌+◌, ◌-◌, ◌*◌, ◌/◌, ◌≤◌, ◌<◌, min}
+use Prim.Native.Nat.{ℕ, ◌+◌, ◌-◌, ◌*◌, ◌/◌, ◌≤◌, ◌<◌}
 use native.Mathlib.Omega.{arith}
 use native.Mathlib.Nat.{mul-le-mul_left, mul-le-mul_right, le-div_iff_mul-le, div-lt_iff_lt-mul, div-mul-le_self}
 use lib.Dec.{eqb}
@@ -14,11 +14,6 @@ use Rattle.format.specs.declared.Variant.{Variant}
 use Rattle.format.specs.declared.Variant.TheVariants.{H, L, LPlus}
 use Rattle.format.specs.declared.Header.{Header}
 use Rattle.digits.specs.Digits.{digits}
-
-pub bits_some : (v : Variant) → 0 < bits v
-bits_some H = omega arith
-bits_some L = omega arith
-bits_some LPlus = omega arith
 
 pub bits_few : (v : Variant) → bits v ≤ 4
 bits_few H = omega arith
@@ -94,9 +89,6 @@ module _ (s w : ℕ) (pos : 0 < w) where
   up_in : (f : ℕ) → f < rounded_up s w → f * w < s
   up_in f l = let m : (f + 1) * w ≤ s + (w - 1) = (le-div_iff_mul-le pos).0 (omega arith) in omega arith
 
-  up_past : (f : ℕ) → rounded_up s w ≤ f → s ≤ f * w
-  up_past f l = let m : s + (w - 1) < (f + 1) * w = (div-lt_iff_lt-mul pos).0 (omega arith) in omega arith
-
 module _ (h : Header) where
   -- no frame is empty, so that there are no more frames than samples
   pub frames_few : frames h ≤ h.samples
@@ -107,12 +99,3 @@ module _ (h : Header) where
   pub frame_in : (f : ℕ) → f < frames h → f * whole_frame h < h.samples
   unfolding frames
   frame_in = up_in h.samples (whole_frame h) (frame_pos h)
-
-  pub count_is : (f w : ℕ) → w ≡ whole_frame h → count h f ≡ min w (h.samples - f * w)
-  unfolding count
-  count_is f w e = rw e
-
-  -- past the last frame there is no sample
-  pub count_past : (f : ℕ) → frames h ≤ f → count h f ≡ 0
-  unfolding frames count
-  count_past f l = omega (arith, up_past h.samples (whole_frame h) (frame_pos h) f l)

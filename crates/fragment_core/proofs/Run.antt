@@ -40,12 +40,6 @@ module _ (version : ℕ) (variant : Variant) (codes : List ℕ) (s₀ : State) (
         state = rw add-one e;
       }
 
-  pub decoded_all : {i : ℕ} {out : List ℤ} {s : State} → Decoded i out s → i ≡ length out₀
-      → (s ≡ after version variant codes s₀ (length out₀)) × (out ≡ tabulate (sample_at version variant codes s₀ volume) (length out₀))
-  decoded_all {i} {out} {s} d e =
-      let whole = take_all i out (omega (arith, d.long)) in
-      (rw (← e) d.state, rw e at (sym whole ∙ d.done))
-
 -- codes that agree at the first n places give the same state after them, and the same samples
 module _ (version : ℕ) (variant : Variant) (cs ds : List ℕ) (s : State) where
   pub after_same : (n : ℕ) → ((i : ℕ) → i < n → get_or cs i 0 ≡ get_or ds i 0) → after version variant cs s n ≡ after version variant ds s n

@@ -7,7 +7,7 @@ use native.Mathlib.Numerals.{add-one}
 use native.Mathlib.Decide.{dec_lt}
 use mathlib.Core.List.{List, [], ◌∷◌, ◌++◌, map}
 use lib.ListN.{length, get_or, take, drop, set, length-append, length-take, length-drop, length-set, get_or-append}
-use lib.Seq.{take-suc-set, drop_at, get_or_at, take_all, take-append-le, drop-append-le, ext_get_or, get_or-take, get_or-drop, length-take-le}
+use lib.Seq.{take-suc-set, drop_at, get_or_at, take_all, take-append-le, drop-append-le, ext_get_or, get_or-take, get_or-drop}
 use Rattle.lists.specs.Lists.{tabulate, joined}
 
 module _ {ℓ} {A : Type ℓ} where
@@ -107,14 +107,6 @@ module _ {A B : Type 0} (f : A → B) where
   map_at (x ∷ xs) zero d e h = refl
   map_at (x ∷ xs) (suc i) d e h = map_at xs i d e (omega arith)
 
-  -- of two arrays, of which only the first n places are meant
-  pub mapped_at : (xs : List A) (n : ℕ) (ts : List B) (d : A) (e : B) → take n ts ≡ map f (take n xs) → n ≤ length xs
-      → (i : ℕ) → i < n → get_or ts i e ≡ f (get_or (take n xs) i d)
-  mapped_at xs n ts d e m h i l =
-      sym (get_or-take n ts i e l)
-      ∙ ap (λ (t : List B). get_or t i e) m
-      ∙ map_at (take n xs) i d e (rw length-take-le l)
-
 -- ---- a loop that fills an array of n places: the first i of them are g's
 
 pub record Filled {A : Type 0} (g : ℕ → A) (n i : ℕ) (r : List A) : Type 0 where
@@ -134,8 +126,3 @@ module _ {A : Type 0} (g : ℕ → A) (n : ℕ) where
         long = simp length-set f.long;
         done = fill_next g r i x (omega (arith, f.long)) f.done e;
       }
-
-  pub filled_all : {i : ℕ} {r : List A} → Filled g n i r → n ≤ i → r ≡ tabulate g n
-  filled_all {i} {r} f h =
-      let e : i ≡ n = omega (arith, f.within) in
-      sym (take_all i r (omega (arith, f.long))) ∙ f.done ∙ rw e

@@ -112,10 +112,6 @@ module _ {A : Type 0} (P : ℕ → List ℕ → Type 0) where
 
   pub ruleset refusals = (refusing_if, refusing_need, refusing_branch, refusing_then)
 
-  pub refusing_is : (o : Outcome A) {n : ℕ} {vs : List ℕ} → Refusing P o → refused n vs ≡ o → P n vs
-  unfolding Refusing
-  refusing_is o p e = rw (← e) at p
-
 -- ---- checks by number
 
 module _ {A : Type 0} (a : A) (f : ℕ → Outcome A) where

@@ -1,7 +1,7 @@
 -- The laws of signed numbers: they turn a test or a bound on ℤ into a fact on ℕ, which omega reads. Assumes nothing.
 use mathlib.Core.Path.{◌≡◌, refl}
 use mathlib.Core.Bool.{Bool, true, false, not, cond}
-use lib.Dec.{T, leb}
+use lib.Dec.{T}
 use native.Mathlib.Nat.{zero-div, le_trans, mul-le-mul_left, mul-le-mul_right}
 use Prim.Native.Nat.{ℕ, zero, suc, ◌*◌, ◌/◌, ◌<◌, ◌≤◌, ◌^◌, min}
 use native.Mathlib.Omega.{arith}
@@ -11,7 +11,6 @@ use mir.Syntax.{w16, w32}
 use mir.Val.{to_z, of_z}
 use Rattle.std.specs.Int.{int_min, int_max, saturate_unsigned}
 use Rattle.std.proofs.lemmas.Int.{ints, clamps}
-use Rattle.std.proofs.lemmas.Bool.Decides.{nat_tests}
 use Rattle.signed.specs.Signed.{is_neg, with_sign, on_magnitude, clamp16, clamp_to, depth}
 
 -- std's test of the sign
@@ -27,9 +26,6 @@ product_le m n {a} {b} h k = le_trans (mul-le-mul_right b h) (mul-le-mul_left m 
 mag_le : (z : ℤ) → mag z ≤ nat_abs z
 mag_le (pos n) = omega arith
 mag_le (negsuc n) = omega arith
-
-pub abs16 : (z : ℤ) → mag z ≤ 32767 → nat_abs z ≤ 32768
-abs16 z h = omega (arith, ints)
 
 -- what holds of both branches holds of the choice
 pub cond_ind : {A : Type 0} (c : Bool) (x y : A) (P : A → Type 0) → (T c → P x) → (T (not c) → P y) → P (cond c x y)
@@ -128,14 +124,6 @@ pub clamp_neg : (n : ℕ) → n ≤ 32768 → clamp16 (neg_ℤ (pos n)) ≡ neg_
 clamp_neg n h = omega (arith, ints, clamps, clamp16_is (neg_ℤ (pos n)))
 
 -- ---- a signed number fits 16 bits, by the two tests of its bounds
-pub below_out : (z : ℤ) → lt_z z (negsuc 32767) ≡ true → leb (mag z) 32767 ≡ false
-below_out z e = grind (arith, ints, nat_tests)
-
-pub above_out : (z : ℤ) → lt_z (pos 32767) z ≡ true → leb (mag z) 32767 ≡ false
-above_out z e = grind (arith, ints, nat_tests)
-
-pub between_in : (z : ℤ) → lt_z z (negsuc 32767) ≡ false → lt_z (pos 32767) z ≡ false → leb (mag z) 32767 ≡ true
-between_in z e d = grind (arith, ints, nat_tests)
 
 -- ---- the depth of a 16-bit number below 32767
 pub depth_is : (z : ℤ) → mag z ≤ 32767 → pos 32767 -ℤ z ≡ pos (depth z)

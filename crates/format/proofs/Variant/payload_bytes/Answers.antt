@@ -1,7 +1,6 @@
 -- `format::Variant::payload_bytes` meets its contract. Assumes nothing.
 use mathlib.Core.Path.{◌≡◌, ◌∙◌}
 use Prim.Native.Nat.{ℕ, ◌*◌}
-use native.Mathlib.Omega.{arith}
 use Rattle.std.specs.Int.{div_ceil}
 use Rattle.format.specs.Layout.{bits, payload_bytes}
 use Rattle.format.specs.declared.Variant.{Variant}
