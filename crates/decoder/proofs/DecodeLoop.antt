@@ -19,7 +19,7 @@ use Rattle.format.specs.declared.State.{State}
 use Rattle.format.specs.declared.Header.{Header}
 use Rattle.format.specs.declared.Reached.{Reached}
 use Rattle.decoder.specs.Loops.{put_at, out_after, states_after, place_decoded, start_states, loop_states, loop_samples, loop_out, Decoding}
-use Rattle.decoder.proofs.Interleave.{out_whole, length-out_after, spread-take}
+use Rattle.decoder.proofs.Interleave.{out_whole, spread-take}
 use Rattle.decoder.proofs.Turns.{chain, turn_state_lem, length_states}
 
 module _ (h : Header) (d : List ℕ) (hc : 0 < h.channels) where
@@ -80,7 +80,6 @@ decoding_none h d o z e = record { out_is = refl; states_long = refl; states_are
     at (suc (suc k)) l y = absurd (omega arith)
 
 module _ {h : Header} {d : List ℕ} {o : List ℤ} {p : ℕ} {out : List ℤ} {states : List Reached} (t : Decoding h d o p out states) where
-
   -- a turn more
   module _ (hc : 0 < h.channels) (few : h.channels ≤ 2) where
     one : p % h.channels < 2

@@ -1,14 +1,11 @@
 -- The turns of fragments side by side. Assumes nothing.
 use Prim.Native.Nat.{ℕ, ◌+◌, ◌/◌, ◌%◌, ◌≤◌, ◌<◌}
 use native.Mathlib.Nat.{mod-lt}
-use native.Mathlib.Decide.{ℕ_discrete}
 use native.Mathlib.Omega.{arith}
 use mathlib.Core.Path.{◌≡◌, sym, ap, ◌∙◌}
 use mathlib.Core.List.{List}
 use lib.IntN.{ℤ}
-use lib.ListN.{length, get_or, set, length-set}
-use lib.Seq.{get_or-set_same, get_or-set_other}
-use Rattle.std.proofs.lemmas.List.{get_or_read}
+use lib.ListN.{length, get_or, set}
 use Rattle.format.specs.Layout.{count, fragment_at_place}
 use Rattle.format.specs.Decode.{zero_state}
 use Rattle.format.specs.declared.Header.{Header}

@@ -1,13 +1,13 @@
 -- The loop over a fragment's codes: what holds after i of them, and that codes which agree so far give the same state and samples.
 -- Assumes nothing.
-use mathlib.Core.Path.{◌≡◌, refl, sym, ◌∙◌}
+use mathlib.Core.Path.{◌≡◌, refl, ◌∙◌}
 use mathlib.Core.List.{List}
 use Prim.Native.Nat.{ℕ, zero, suc, ◌+◌, ◌<◌}
 use native.Mathlib.Numerals.{add-one}
 use native.Mathlib.Omega.{arith}
 use lib.IntN.{ℤ}
 use lib.ListN.{length, get_or, set, take, length-set}
-use lib.Seq.{take-suc-set, take_all}
+use lib.Seq.{take-suc-set}
 use Rattle.lists.specs.Lists.{tabulate}
 use Rattle.lists.proofs.ByIndex.{tabulate_ext}
 use Rattle.format.specs.Step.{stepped}

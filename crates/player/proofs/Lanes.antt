@@ -18,7 +18,6 @@ pub record EachOf {A B : Type 0} (P : ℕ → A → B → Type 0) (n k : ℕ) (x
   pub each : (j : ℕ) → j < k → (a : A) (b : B) → P j (get_or xs j a) (get_or ys j b)
 
 module _ {A B : Type 0} (P : ℕ → A → B → Type 0) {n : ℕ} {xs : List A} {ys : List B} where
-
   pub each_more : {k : ℕ} {x : A} {y : B} → EachOf P n k xs ys → k < n → P k x y → EachOf P n (k + 1) (set xs k x) (set ys k y)
   each_more {k} {x} {y} e l p =
       record {
