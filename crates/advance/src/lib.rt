@@ -1,6 +1,6 @@
 // The state after the code that the encoder chooses, without the code: for H by what is left of the distance, for L and L+ by three
 // comparisons instead of eight candidates. Two forms of one rule: by `choice::encode_code` and `adpcm::update` encoding took 47 % longer of
-// H, 96 % of L and 87 % of L+.
+// H, 96 % of L and 87 % of L+; the bars are 4.5 times the Rust's speed of H, and 6 of L and L+.
 #![tactic(auto)]
 
 ghost use Rattle.std.specs.Prelude.{◌≡◌, ◌+◌, ◌-◌, ◌*◌, ◌<◌, ◌≤◌, min, if◌then◌else◌};
@@ -142,7 +142,8 @@ fn within(sizes: Sizes, limit: u32) -> Sizes
 }
 
 // What the encoder needs at each sample: the settings, and the sizes of L or L+ at each index, a row of four for each; of H zeros, which
-// nothing reads. An `Option` of the sizes is no plainer: `l_next` and `sizes_at` would take the sizes, and each ask what they are of.
+// nothing reads. An `Option` of the sizes is no plainer: `l_next` and `sizes_at` would take the sizes, and each ask what they are of. One row
+// behind the other: so one `tabulate` says what they are.
 #[derive(Drop)]
 pub struct Coder {
     pub settings: Settings,

@@ -29,7 +29,7 @@ pub const READ: usize = MOST + 1;
 const SAMPLES: usize = MOST / 2;
 
 // Room for the longest answer: a header's line and the lines of 2,620 fragments, of at most 128 bytes each. The streams are shorter.
-// There is no heap, so the output is lent, and how many bytes of it are the answer comes back beside it.
+// The output is lent and its later places stay, so how many bytes of it are the answer comes back beside it.
 pub const ROOM: usize = 335488;
 
 // Why a program refuses: the size of its input, or what the codec or WAV reading refuses.
@@ -91,7 +91,8 @@ fn put_refusal(refusal: Refused, out: &mut [u8; ROOM]) -> usize
     page.count()
 }
 
-// Internal: the report on a stream, at the front of the output.
+// Internal: the report on a stream, at the front of the output. That the input has at most MOST bytes is asked here and in the two functions
+// below: what each takes of it is of another type.
 fn put_report(stream: &Stream, out: &mut [u8; ROOM]) -> usize
     requires { length stream.now.file.now ≤ 65536 }
     ensures { Put out.old 0 (report stream.now.file.now stream.now.header) out.new result }

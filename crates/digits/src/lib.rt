@@ -45,7 +45,8 @@ pub fn unpack_code(payload: &[u8], at: usize, bits: usize) -> u8
     (window % pow2(bits)) as u8
 }
 
-// Internal: the codes written as digits of `bits` bits that fill `out`: packing and unpacking, at any widths.
+// Internal: the codes written as digits of `bits` bits that fill `out`: packing and unpacking, at any widths. The bound on the length stands
+// here and in two callers: `out` is lent to be written, so that no type of the codes can hold it.
 pub fn regroup(src: Codes, out: &mut [u8], bits: usize)
     requires { (bits ≤ 8) × (length out.old < 2 ^ 32) }
     ensures { out.new ≡ digits bits (length out.old) (number src.entry.bits src.entry.codes.now) }

@@ -11,7 +11,7 @@ ghost use Rattle.encoder.specs.Loops.{put_after};
 use advance::Coder;
 use format::{Error, Header, Settings, Variant};
 
-// The 16 bytes of a header.
+// The 16 bytes of a header, by the definition's name.
 fn header_bytes(h: Header) -> [u8; 16]
     ensures { result ≡ header_bytes h }
 {

@@ -96,7 +96,7 @@ pub fn starts_anew(version: u8) -> bool
 }
 
 // How the fragments of a stream are coded: by its version and its variant. The version stays a number, since the rules compare it and
-// the calls take any.
+// the calls take any: an enum of the three would ask more of those who make a Coding.
 #[derive(Clone, Copy)]
 pub struct Coding {
     pub version: u8,
@@ -275,7 +275,7 @@ pub struct Header {
 }
 
 impl Header {
-    // How the stream's fragments are coded.
+    // How the stream's fragments are coded. By a name, since a header is more than its coding.
     pub fn coding(self) -> Coding
         ensures { result ≡ record { version = self.version; variant = self.variant } }
     {

@@ -9,7 +9,8 @@ ghost use Rattle.fragment_core.specs.Run.{sample_at};
 
 use format::{Coded, Coding, Reached};
 
-// The state before a fragment's first code.
+// The state before a fragment's first code. Coding, state and fragment stay three parameters, here and where fragments are decoded: each
+// caller has them apart.
 pub fn state_before(coding: Coding, state: Reached, fragment: &Coded) -> Reached
     ensures { result.state ≡ start_state coding.version state.state fragment.now.bytes.now }
 {

@@ -19,7 +19,7 @@ fn same_letters(file: &[u8]) -> bool
     file.starts_with(b"SQV4")
 }
 
-// Internal: what the first 16 bytes state, where the variant byte names this variant.
+// Internal: what the first 16 bytes state, where the variant byte names this variant. By the definition's name: it takes two things.
 #[tactic(auto, unfolding(format::specs::Layout::header_of))]
 fn header_of(file: &[u8], variant: Variant) -> Header
     requires { 16 ≤ length file.now }

@@ -74,7 +74,7 @@ impl<'a> Stream<'a> {
         fragment_count(self.header)
     }
 
-    // The place `p` of the file order.
+    // Internal: the place `p` of the file order.
     pub fn place(&self, p: usize) -> Place<'a>
         requires { p < frames self.now.header * self.now.header.channels }
         ensures { (result.p ≡ p) × (result.stream.header ≡ self.now.header) × (result.stream.file.now ≡ self.now.file.now) }

@@ -78,7 +78,7 @@ fn index_field(page: &mut Printer, coding: Coding, fragment: &Coded)
     }
 }
 
-// Internal: the line of the fragment at a place of a stream.
+// The line of the fragment at a place of a stream.
 #[tactic(auto, using(crate::proofs::Lines::fragment_few))]
 pub fn fragment_line(page: &mut Printer, place: &Place)
     ensures prints { Printed page.old (fragment_line place.now.stream.header place.now.stream.file.now place.now.p) page.new }

@@ -16,7 +16,7 @@ use format::{Coding, Reached, State, Variant};
 
 mod entries;
 
-// The two tables of a coding: the differences, and the next rows.
+// The two tables of a coding: the differences, and the next rows. Two, not one of pairs: L and L+ of every version share the next rows.
 #[derive(Clone, Copy)]
 pub struct Tables {
     pub coding: Coding,
@@ -111,7 +111,8 @@ pub fn state_of(variant: Variant, s: Point) -> State
     State { predictor, index }
 }
 
-// How far a predictor lies below 32767, and where the row of an index begins.
+// How far a predictor lies below 32767, at most 65535, and where the row of an index begins. The bound stands in the contracts of the free
+// functions and in `Kept`, not here: `step` promises the same of any two tables.
 #[derive(Clone, Copy)]
 pub struct Point {
     pub depth: u32,

@@ -7,7 +7,8 @@ use std::io;
 use std::io::Read;
 use text::Printer;
 
-// The most bytes of a question. There is no heap: a question and an answer lie at the front of arrays, their sizes beside them.
+// The most bytes of a question. It and its answer lie in arrays and not in ArrayVecs: of each only the front is stored, and the zeros behind it
+// are the array's own.
 const QUESTION: usize = READ + 1;
 
 // The bytes of a record's four sizes.
@@ -134,7 +135,7 @@ fn replay_file<F: Fn(Question, &mut Printer) -> Option<()>>(
     }
 }
 
-// Replays the list in each file, and prints what it gave. A file that can't be opened is named. No contract of the library says what a file
+// Internal: replays the list in each file, and prints what it gave. A file that can't be opened is named. No contract of the library says what a file
 // holds or what is printed: replay_calls tries a list of wrong answers, each of which must be printed as one that differs.
 pub fn replay<F: Fn(Question, &mut Printer) -> Option<()>>(
     rt: &HostRuntime,

@@ -47,9 +47,10 @@ impl<'a> Question<'a> {
         self.chunk::<1>()[0]
     }
 
-    // The next number of four bytes, 0 where fewer are left.
+    // The next number of four bytes, 0 where fewer are left. This and `long` have two types of result, and a line each over `chunk`.
     pub fn word(&mut self) -> u32
         ensures value { 4 ≤ length self.old.rest.now → result ≡ from_le_bytes w32 (take 4 self.old.rest.now) }
+        ensures none { length self.old.rest.now < 4 → result ≡ 0 }
         ensures rest { self.new.rest.now ≡ drop 4 self.old.rest.now }
     {
         u32::from_le_bytes(self.chunk())
@@ -58,6 +59,7 @@ impl<'a> Question<'a> {
     // The next number of eight bytes, 0 where fewer are left.
     pub fn long(&mut self) -> u64
         ensures value { 8 ≤ length self.old.rest.now → result ≡ from_le_bytes w64 (take 8 self.old.rest.now) }
+        ensures none { length self.old.rest.now < 8 → result ≡ 0 }
         ensures rest { self.new.rest.now ≡ drop 8 self.old.rest.now }
     {
         u64::from_le_bytes(self.chunk())
@@ -87,6 +89,9 @@ impl<'a> Question<'a> {
         ensures version { result.version ≡ slice_index self.entry.rest.now 0 }
         ensures variant { result.variant ≡ slice_index self.entry.rest.now 1 }
         ensures count { result.count ≡ slice_index self.entry.rest.now 2 }
+        ensures predictor { 20 ≤ length self.entry.rest.now
+            → result.state.predictor ≡ predictor_of (slice_index self.entry.rest.now 3) (from_le_bytes w64 (take 8 (drop 4 self.entry.rest.now))) }
+        ensures index { 20 ≤ length self.entry.rest.now → result.state.index ≡ from_le_bytes w64 (take 8 (drop 12 self.entry.rest.now)) }
         ensures bytes { result.bytes.now ≡ drop 20 self.entry.rest.now }
     {
         let version = self.byte();

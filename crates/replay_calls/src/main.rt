@@ -64,7 +64,8 @@ fn put_played(answer: &mut Printer, a: Answer, state: State) -> usize {
     count
 }
 
-// Loads the samples of a question's bytes by the call for C, where `replay` has that of Rust; none where they are too many.
+// Loads the samples of a question's bytes by the call for C, where `replay` has that of Rust: they share `front` alone. None where they are
+// too many.
 fn load<'a>(bytes: &[u8], pcm: &'a mut [i16]) -> &'a [i16] {
     let count = filled_count(postlapse::postlapse_load_samples(bytes, pcm));
     front(pcm, count)

@@ -49,7 +49,7 @@ struct Best {
     marks: [Mark; 63],
 }
 
-// Internal: the square of the distance from a pre-gained sample to the sample that a predictor gives.
+// Internal: the square of the distance from a pre-gained sample to the sample that a predictor gives, which comes in 32 bits, as in a state.
 pub fn squared_error(sample: i16, predictor: i32, volume: u8) -> u64
     requires { mag predictor ≤ 32767 }
     ensures { (result ≡ square (nat_abs (sample -ℤ output_gain 3 volume predictor))) × (result ≤ 4294967296) }

@@ -43,7 +43,7 @@ pub fn add_clamp16(x: i32, y: i32) -> i32
     clamp16(x + y)
 }
 
-// Internal: the sum, clamped to 0..=top.
+// The sum, clamped to 0..=top.
 #[tactic(auto, using(crate::proofs::Laws::saturated_to))]
 pub fn add_clamp_to(x: u32, y: i32, top: u32) -> u32
     ensures { result ≡ clamp_to top (pos x +ℤ y) }
@@ -68,8 +68,8 @@ pub fn lower(u: u32) -> i32
     u as i32 - 32768
 }
 
-// Internal: how far a 16-bit number lies below 32767. This and `at_depth` count down from 32767, `raise` and `lower` up from -32768, so
-// that no constant turns one pair into the other.
+// Internal: how far a 16-bit number lies below 32767. It is 65535 less `raise` of it, which would need that
+// law and a second subtraction: no plainer. The number comes in 32 bits, as the predictor of a state does.
 #[tactic(auto, using(crate::proofs::Laws::depth_is, crate::proofs::Laws::depth_le))]
 pub fn depth(x: i32) -> u32
     requires { mag x ≤ 32767 }

@@ -12,8 +12,8 @@ use digits::Codes;
 use format::{Coding, Reached};
 use search::Fragment;
 
-// Internal: what a function gives of the samples, at the front of 63 places. An array, here and in `codes_from`: the callers have the
-// count, where an `ArrayVec` would count again at each push, and fills its places first too.
+// Internal: what a function gives of the samples, at the front of 63 places. An array, here and in `codes_from`: what is lent of
+// it is its first `count` places, and the callers have the count; an ArrayVec would be no plainer.
 fn mapped<F: Fn(i16) -> i16>(xs: &[i16], f: F) -> [i16; 63]
     requires few { length xs.now ≤ 63 }
     requires callable { F.IsAlwaysCallable f }

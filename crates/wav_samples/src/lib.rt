@@ -13,6 +13,7 @@ pub fn load_samples(bytes: &[u8], out: &mut [i16]) -> Result<usize, WaveError>
     if out.len() < n {
         return Err(WaveError::OutputTooShort(n));
     }
+    // The bytes by their places: of the items of a zip with `chunks_exact` a proof knows nothing.
     for (i, sample) in out[..n].iter_mut().enumerate() {
         *sample = signed::sample_of(bytes[2 * i], bytes[2 * i + 1]);
     }

@@ -26,7 +26,8 @@ fn wave_header(channels: u8, rate: u32, byte_rate: u32, riff: u32, size: u32) ->
     header
 }
 
-// Internal: the samples, two bytes each, from the front of `out` on.
+// Internal: the samples, two bytes each, from the front of `out` on, by their places, since a proof doesn't know what `chunks_exact_mut`
+// leaves.
 fn put_samples(samples: &[i16], out: &mut [u8])
     requires { 2 * length samples.now ≤ length out.old }
     ensures { out.new ≡ sample_bytes samples.now ++ drop (2 * length samples.now) out.old }
