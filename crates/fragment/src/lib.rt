@@ -61,6 +61,7 @@ pub struct Returned<A> {
 
 // Decodes as many samples of one fragment as the output has places, at most a frame's. Versions 1 and 2 go on from the state and
 // return the one after the last sample; version 3 returns the given state. A refusal leaves the state and the output as they were.
+// Version and variant come apart, as the reference Rust and the calls for C have them.
 pub fn decode_one(
     version: u8,
     variant: Variant,
