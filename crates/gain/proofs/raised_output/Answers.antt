@@ -8,15 +8,6 @@ use Rattle.gain.proofs.raised_output.Goals.{After-raise}
 product : (c : After-raise) → c.raise.result * c.args.volume ≤ 65535 * c.args.volume
 product c = mul-le-mul_right c.args.volume c.raise.ensures.1
 
-pub overflow_mul-result : goal.overflow_mul-result
-overflow_mul-result c = omega (arith, product (goal.at.overflow_mul-result c).After-raise)
-
-pub overflow_add-result : goal.overflow_add-result
-overflow_add-result c = omega (arith, product (goal.at.overflow_add-result c).After-raise)
-
-pub overflow_add-result-2 : goal.overflow_add-result-2
-overflow_add-result-2 c = omega (arith, product (goal.at.overflow_add-result-2 c).After-raise)
-
 pub returns : goal.returns
 returns c =
     let a = c.args in
