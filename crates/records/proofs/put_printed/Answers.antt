@@ -6,6 +6,3 @@ slice_bounds-out-end g c = (c.requires.prints _ _ _ _ c.command-count.ensures).0
 
 pub slice_bounds-word-end : goal.slice_bounds-word-end
 slice_bounds-word-end g c = (c.requires.prints _ _ _ _ c.command-count.ensures).1
-
-pub returns : goal.returns
-returns g c = (_, _, _, c.command-count.ensures, c.word.ensures)
