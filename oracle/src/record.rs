@@ -1,10 +1,10 @@
-//! A list's inputs with their answers, as bytes: the data of crates/replay_calls. README.md has the layout.
+//! A list's inputs with their answers, as bytes: the data of crates/replay. README.md has the layout.
 
 use crate::answer::{self, Answer, Header, Refusal, Wave};
 use crate::input::{Input, Room, bad_line, sample_bytes, without_last_zeros};
 use crate::reference::sqv4::State;
 
-/// The bytes that a question and an answer may have in crates/replay_calls, and the places of its arrays for samples and bytes.
+/// The bytes that a question and an answer may have in crates/replay, and the places of its arrays for samples and bytes.
 const MOST_QUESTION: usize = 65538;
 const MOST_ANSWER: usize = 335488;
 const MOST_SAMPLES: usize = 1024;

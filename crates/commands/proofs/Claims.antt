@@ -11,9 +11,10 @@ use lib.ListN.{length, take, length-take, length-drop}
 use lib.Seq.{take_all}
 use native.Mathlib.Decide.{dec_lt}
 use borrow.Author.Tests.{le-ltb, eq-eqb, eqb-true}
-use Rattle.outcome.specs.Outcome.{result, Refusing}
+use Rattle.outcome.specs.Outcome.{result, refused, Refusing}
 use Rattle.outcome.proofs.Flags.{either_elim}
 use Rattle.outcome.proofs.Laws.{clear, pass, refusing_then}
+use Rattle.outcome.proofs.Tests.{refuses_means}
 use Rattle.format.specs.Layout.{channels_fit, stream_length}
 use Rattle.format.specs.Encode.{header_written, encoded, too_many, encode_call}
 use Rattle.format.specs.declared.Settings.{Settings}
@@ -26,13 +27,17 @@ use Rattle.wav_samples.proofs.Samples.{length_samples}
 use Rattle.commands.specs.Commands.{encode_whole, encode_wave, converted, reported}
 use Rattle.commands.specs.declared.TheConstants.{READ}
 use Rattle.commands.proofs.Printing.{long_refused, stream_too_long}
-use Rattle.commands.specs.Cases.{pinned}
+use Rattle.commands.specs.Cases.{converter_refused, pinned}
 use Rattle.commands.proofs.Checks.{pinned_hold}
 
 -- "checks 38, then 8, then by plain WAV reading and the encoder", "checks 38, then as inspection does": each at its bound and in its place,
 -- and "The file of case 3 prints", with the line of a refusal
 pub refusals_pinned : T pinned
 refusals_pinned = pinned_hold
+
+-- what a passed test of the converter's refusals tells
+pub refusal_tested : (n : ℕ) (vs input : List ℕ) → T (converter_refused n vs input) → converted input ≡ refused n vs
+refusal_tested n vs input = refuses_means n vs _
 
 -- ---- the encoder takes each WAV that plain reading accepts and a program can read
 

@@ -1,3 +1,4 @@
 pub mod Printing
 pub mod Claims
 pub mod Checks
+pub mod Uses

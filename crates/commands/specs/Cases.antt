@@ -20,7 +20,7 @@ header variant = 83 ∷ 81 ∷ 86 ∷ 52 ∷ 3 ∷ variant ∷ 1 ∷ 0 ∷ 64 �
 abbrev stream : List ℕ
 stream = header 0 ++ (0x08 ∷ 0x51 ∷ 0x07 ∷ replicate 31 0)
 
-abbrev converter_refused : ℕ → List ℕ → List ℕ → Bool
+abbrev pub converter_refused : ℕ → List ℕ → List ℕ → Bool
 converter_refused n vs input = refuses n vs (converted input)
 
 -- under 2 or over 65,536 bytes: 2 and 65,536 are taken, and have no WAV. Before 8

@@ -1,8 +1,8 @@
--- The worked cases of 01 by one computed check, two more for what they leave open, a fourth for the refusals. Assumes nothing.
+-- The worked cases of 01 by one computed check, another for what they leave open, a third for the refusals. Assumes nothing.
 use lib.Dec.{T}
 use Rattle.format.specs.Compute.{computing}
 use Rattle.format.specs.Cases.{cases, further, ramp, weighted}
-use Rattle.format.specs.Refusals.{more, pinned}
+use Rattle.format.specs.Refusals.{pinned}
 
 pub cases_hold : T cases
 unfolding ramp computing
@@ -11,10 +11,6 @@ cases_hold = tt
 pub further_hold : T further
 unfolding weighted computing
 further_hold = tt
-
-pub more_hold : T more
-unfolding computing
-more_hold = tt
 
 pub pinned_hold : T pinned
 unfolding computing

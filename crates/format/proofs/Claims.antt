@@ -21,9 +21,9 @@ use Rattle.format.specs.Decode.{zero_state, InRange, state_before, decoded, frag
 use Rattle.format.specs.Encode.{channel, header_written, encoded, encode_call, OwnFragments}
 use Rattle.format.specs.Inspect.{Sound, inspected, decode_call, Agree}
 use Rattle.format.specs.Calls.{Call, Listed, InStream, Separate}
-use Rattle.format.specs.Tests.{is_state, ample, settings, encodes, inspects, decodes, plays, steps}
+use Rattle.format.specs.Tests.{is_state, ample, settings, encodes, encode_refused, inspects, inspect_refused, decodes, decode_refused, plays, steps}
 use Rattle.format.specs.Cases.{cases, further}
-use Rattle.format.specs.Refusals.{encode_checks, more, pinned}
+use Rattle.format.specs.Refusals.{pinned}
 use Rattle.format.specs.Answers.{number_of, values_of}
 use Rattle.format.proofs as proofs
 use Rattle.format.specs.declared.Variant.{Variant}
@@ -38,13 +38,10 @@ use Rattle.format.specs.declared.Error.{Error}
 pub starred_cases : T cases
 starred_cases = proofs.Checks.cases_hold
 
--- what the cases leave open: tables, slips of other players, a tie, a last partial frame, 13, 14, 15, the order of checks
+-- what the cases leave open: tables, slips of other players, ties, thresholds that just fit, the limits of a state, two channels of
+-- several frames, what refused calls leave, volume 0
 pub further_checks : T further
 further_checks = proofs.Checks.further_hold
-
--- more of them: ties, thresholds that just fit, the limits of a state, two channels of several frames
-pub more_checks : T more
-more_checks = proofs.Checks.more_hold
 
 -- every refusal of every call: inputs that give it, the numbers returned, its neighbours across the bound, its place in the order
 pub refusals_pinned : T pinned
@@ -59,6 +56,17 @@ acceptance_tested = accepts_means
 
 pub refusal_tested : {A : Type 0} (n : ℕ) (vs : List ℕ) (o : Outcome A) → T (refuses n vs o) → o ≡ refused n vs
 refusal_tested = refuses_means
+
+-- the same of the tests that name the call: an encoding, an inspection and a decoding that are refused
+pub encode_refusal_tested : (variant : Variant) (gain channels rate : ℕ) (pcm : List ℤ) (n : ℕ) (vs : List ℕ)
+    → T (encode_refused variant gain channels rate pcm n vs) → encode_call (settings variant gain) pcm channels rate ample ≡ refused n vs
+encode_refusal_tested variant gain channels rate pcm n vs = refuses_means n vs _
+
+pub inspect_refusal_tested : (d : List ℕ) (n : ℕ) (vs : List ℕ) → T (inspect_refused d n vs) → inspected d ≡ refused n vs
+inspect_refusal_tested d n vs = refuses_means n vs _
+
+pub decode_refusal_tested : (d : List ℕ) (n : ℕ) (vs : List ℕ) → T (decode_refused d n vs) → decode_call d ample ≡ refused n vs
+decode_refusal_tested d n vs = refuses_means n vs _
 
 pub state_tested : (s : State) (predictor : ℤ) (index : ℕ) → T (is_state s predictor index) → s ≡ record { predictor = predictor; index = index }
 state_tested = proofs.Tests.is_state_means
@@ -128,12 +136,6 @@ pub encode_accepts : (k : Settings) (pcm : List ℤ) (channels rate room : ℕ) 
     → encode_call k pcm channels rate room ≡ result (encoded k pcm channels rate)
 encode_accepts = proofs.Encoder.encode_accepts
 
--- the checks of a call are those of its numbers, which the cases pin
-pub encode_by_numbers : (k : Settings) (pcm : List ℤ) (channels rate room : ℕ) → encode_call k pcm channels rate room
-    ≡ encode_checks channels rate (length pcm) (stream_length (header_written k pcm channels rate)) room (result (encoded k pcm channels rate))
-unfolding encode_call
-encode_by_numbers k pcm channels rate room = refl
-
 -- "Decoder: inspection, then 13": it refuses what inspection refuses, and decodes what inspection accepts where there is room
 pub decode_refuses : (d : List ℕ) (room n : ℕ) (vs : List ℕ) → inspected d ≡ refused n vs → decode_call d room ≡ refused n vs
 decode_refuses = proofs.Agreement.decode_refuses
@@ -196,14 +198,6 @@ state_anew = proofs.Range.before_anew
 pub refused_anyway : (version : ℕ) (variant : Variant) (s t : State) (fragment : List ℕ) (n : ℕ) → InRange s
     → Refuses (fragment_call version variant s fragment n) → Refuses (fragment_call version variant t fragment n)
 refused_anyway = proofs.Range.refused_anyway
-
--- the claims are not empty: a version 2 stereo stream and five calls, two of them refused, meet the premises of the one, and a
--- version 3 stereo stream and five calls, the last frame first and one of them refused, those of the other
-pub separation_instance : Separate proofs.Instance.header proofs.Instance.stream proofs.Instance.calls
-separation_instance = proofs.Instance.separate_here
-
-pub any_order_instance : Separate proofs.Instance.header3 proofs.Instance.stream3 proofs.Instance.calls3
-any_order_instance = proofs.Instance.separate3_here
 
 -- "Whatever the rest holds, two accepted streams with equal headers and equal fragments in one channel agree on that channel's
 -- samples": with each other and with the definition's

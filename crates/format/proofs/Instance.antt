@@ -15,9 +15,8 @@ use Rattle.digits.specs.Digits.{packed}
 use Rattle.format.specs.Layout.{anew, header_bytes, fragment_at}
 use Rattle.format.specs.Decode.{zero_state, decoded_fragment, frame_decoded}
 use Rattle.format.specs.Inspect.{inspected}
-use Rattle.format.specs.Calls.{Call, takes, other, channel_of, done, Due, Listed, InStream, Separate}
+use Rattle.format.specs.Calls.{Call, takes, other, channel_of, done, Due, Listed, InStream}
 use Rattle.format.specs.Compute.{computing}
-use Rattle.format.proofs.Separation.{separation, any_order}
 use Rattle.format.specs.declared.Variant.TheVariants.{H, L}
 use Rattle.format.specs.declared.Header.{Header}
 
@@ -50,9 +49,6 @@ unfolding Listed Refuses Due calls channel_of done header blank stream fragment 
 listed_here =
     (omega arith, tt, (omega arith, omega arith, refl, refl, (omega arith, tt, (omega arith, omega arith, refl, refl, (omega arith, omega arith, refl, refl, tt)))))
 
-pub separate_here : Separate header stream calls
-separate_here = separation stream header accepted_here calls listed_here
-
 -- version 3, two channels, L, a whole frame and one of 1 sample; five calls: the last frame first, one refused (14), one that takes a
 -- fragment again
 pub header3 : Header
@@ -81,9 +77,6 @@ pub in_stream_here : InStream header3 calls3
 unfolding InStream Refuses calls3 header3 blank computing
 in_stream_here =
     (omega arith, omega arith, refl, (omega arith, omega arith, refl, (omega arith, tt, (omega arith, omega arith, refl, (omega arith, omega arith, refl, tt)))))
-
-pub separate3_here : Separate header3 stream3 calls3
-separate3_here = any_order stream3 header3 accepted3_here anew3_here calls3 in_stream_here
 
 -- the right channel's first fragment, decoded from the state that the left channel's first one left, gives other samples
 pub one_state_differs : T (not (same_samples

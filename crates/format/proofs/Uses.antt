@@ -4,17 +4,18 @@ use mathlib.Core.Path.{◌≡◌, refl, sym, ◌∙◌, ap}
 use mathlib.Core.List.{List, [], ◌∷◌, map}
 use Prim.Native.Nat.{ℕ, zero, suc, ◌+◌, ◌*◌, ◌/◌, ◌^◌, ◌≤◌, ◌<◌}
 use native.Mathlib.Omega.{arith}
-use native.Mathlib.Nat.{div-one}
+use native.Mathlib.Nat.{div-one, le_refl}
 use lib.IntN.{ℤ, pos, negsuc, nat_abs, ◌-ℤ◌, ◌*ℤ◌}
 use lib.Signed.{mag, quot_z}
 use lib.ListN.{length, get_or}
-use Rattle.outcome.specs.Outcome.{result, refused, Refuses}
+use Rattle.outcome.specs.Outcome.{Outcome, result, refused, Refuses}
+use Rattle.outcome.proofs.Laws.{one_way}
 use Rattle.signed.specs.Signed.{on_magnitude, with_sign, is_neg}
 use Rattle.format.specs.Layout.{whole_frame, frames, count, stream_length, fragment_at}
 use Rattle.format.specs.Gain.{nearest, pregained, own_volume, normalised, output_gain}
 use Rattle.format.specs.Decode.{zero_state, channel_sample, decoded, fragment_call}
 use Rattle.format.specs.Encode.{channel, header_written, encoded, encode_call}
-use Rattle.format.specs.Inspect.{Sound, decode_call}
+use Rattle.format.specs.Inspect.{Sound, inspected, decode_call}
 use Rattle.format.specs.Calls.{Separate}
 use Rattle.format.specs.Tests.{settings}
 use Rattle.format.specs.Compute.{computing}
@@ -109,13 +110,13 @@ heard_blind k pcm pcm' channels rate c room room' bytes bytes' r hc e e' same n 
     let a = claims.agreement bytes bytes' (header_written k pcm channels rate) i j n m x y gx gy c hc alike in
     (a.length_first ∙ sym a.length_second, λ t l. (a.each_other t l, a.second t l))
 
--- a version 2 stereo stream and five calls, two of them refused, meet the premises of separation, and a version 3 stereo stream and
--- five calls, the last frame first and one of them refused, those of any_order
-pub separation_used : Separate here.header here.stream here.calls
-separation_used = claims.separation here.stream here.header here.accepted_here here.calls here.listed_here
+-- the claims about lists are not empty: a version 2 stereo stream and five calls, two of them refused, meet the premises of separation,
+-- and a version 3 stereo stream and five calls, the last frame first and one of them refused, those of any_order
+pub separation_instance : Separate here.header here.stream here.calls
+separation_instance = claims.separation here.stream here.header here.accepted_here here.calls here.listed_here
 
-pub any_order_used : Separate here.header3 here.stream3 here.calls3
-any_order_used = claims.any_order here.stream3 here.header3 here.accepted3_here here.anew3_here here.calls3 here.in_stream_here
+pub any_order_instance : Separate here.header3 here.stream3 here.calls3
+any_order_instance = claims.any_order here.stream3 here.header3 here.accepted3_here here.anew3_here here.calls3 here.in_stream_here
 
 -- from a state at its limits
 pub refused_at_the_limit : (version : ℕ) (variant : Variant) (fragment : List ℕ) (n : ℕ)
@@ -125,14 +126,19 @@ refused_at_the_limit version variant fragment n =
 
 -- ---- calls
 
--- the highest rate, and no byte of room too many
-pub encode_at_the_limit : encode_call (settings L 0) (pos 0 ∷ pos 0 ∷ []) 2 4294967295 68 ≡ result (encoded (settings L 0) (pos 0 ∷ pos 0 ∷ []) 2 4294967295)
-encode_at_the_limit =
-    claims.encode_accepts (settings L 0) (pos 0 ∷ pos 0 ∷ []) 2 4294967295 68 (omega arith) (omega arith) (omega arith) refl (omega arith)
-    (unfold computing in (omega arith))
+-- the most samples of a channel, the highest rate, and no byte of room too many
+pub encode_at_the_limit : (k : Settings) (pcm : List ℤ) → length pcm ≡ 8589934590
+    → encode_call k pcm 2 4294967295 (stream_length (header_written k pcm 2 4294967295)) ≡ result (encoded k pcm 2 4294967295)
+encode_at_the_limit k pcm n =
+    claims.encode_accepts k pcm 2 4294967295 _ (omega arith) (omega arith) (omega arith) (rw n refl) (omega (arith, n)) (le_refl _)
 
-pub decode_nothing : (room : ℕ) → decode_call [] room ≡ refused 5 []
-decode_nothing room = claims.decode_refuses [] room 5 [] (unfold computing in refl)
+-- what the decoder decodes, inspection accepts: it decodes nothing that inspection refuses
+pub decoded_is_inspected : (d : List ℕ) (room : ℕ) (x : Sound) → decode_call d room ≡ result x → (h : Header) × (inspected d ≡ result h)
+decoded_is_inspected d room x e = go (inspected d) refl
+  where
+    go : (o : Outcome Header) → inspected d ≡ o → (h : Header) × (inspected d ≡ result h)
+    go (result h) i = (h, i)
+    go (refused n vs) i = absurd (one_way (sym (claims.decode_refuses d room n vs i) ∙ e))
 
 pub refusal_once : (a b : Error) → refusal {A = ℕ} a ≡ refusal b → a ≡ b
 refusal_once a b e = claims.refusals_differ a b (cc) (cc)

@@ -1,14 +1,14 @@
 -- The worked cases 1 to 9 of 01, and what they leave open: each a test that computes. Assumes nothing.
-use Rattle.std.specs.Prelude.{ℕ, zero, suc, ◌+◌, ◌*◌, ◌%◌, Bool, true, ◌&&◌, not, List, [], ◌∷◌, ◌++◌, eqb, ℤ, pos, negsuc, neg_ℤ, nat_abs, ◌+ℤ◌, length, take, drop, replicate}
-use Rattle.outcome.specs.Tests.{gives, refuses}
+use Rattle.std.specs.Prelude.{ℕ, zero, suc, ◌+◌, ◌*◌, ◌%◌, Bool, ◌&&◌, not, List, [], ◌∷◌, ◌++◌, eqb, ℤ, pos, negsuc, neg_ℤ, nat_abs, ◌+ℤ◌, length, take, drop, replicate}
+use Rattle.outcome.specs.Tests.{gives}
 use Rattle.lists.specs.Lists.{tabulate}
 use Rattle.lists.specs.Tests.{eq_z, same_bytes, same_samples}
 use Rattle.format.specs.Step.{stepped}
 use Rattle.format.specs.Gain.{pregained, volume_of, normalised, output_gain}
 use Rattle.format.specs.Decode.{zero_state, Called, fragment_call, moves, called}
-use Rattle.format.specs.Encode.{too_many, encode_call}
-use Rattle.format.specs.Inspect.{decode_call}
-use Rattle.format.specs.Tests.{is_state, ample, settings, encodes, encode_refused, inspects, inspect_refused, decodes, plays}
+use Rattle.format.specs.Encode.{encode_call}
+use Rattle.format.specs.Inspect.{Sound, decode_call}
+use Rattle.format.specs.Tests.{is_state, ample, settings, encodes, inspects, decodes, plays}
 use Rattle.format.specs.declared.Variant.{Variant}
 use Rattle.format.specs.declared.Variant.TheVariants.{H, L, LPlus}
 use Rattle.format.specs.declared.State.{State}
@@ -16,6 +16,9 @@ use Rattle.format.specs.declared.State.{State}
 -- n samples of a ramp that is not silent
 unfoldable pub ramp : ℕ → List ℤ
 ramp n = tabulate (λ i. pos (i * 977 % 3000)) n
+
+abbrev pub zeros : ℕ → List ℕ
+zeros n = replicate n 0
 
 -- so many bytes of stream that begin with this header
 abbrev stream : ℕ → List ℕ → List ℕ → Bool
@@ -32,12 +35,12 @@ case1 =
 
 -- 2. One sample 0, H: 34 zero bytes
 abbrev case2 : Bool
-case2 = gives (λ b. same_bytes (drop 16 b) (replicate 34 0)) (encode_call (settings H 255) (pos 0 ∷ []) 1 8000 ample)
+case2 = gives (λ b. same_bytes (drop 16 b) (zeros 34)) (encode_call (settings H 255) (pos 0 ∷ []) 1 8000 ample)
 
 -- 3. Mono 8000, H, sample 1000: hex 08 51 07, then 31 zeros; decodes to 989
 abbrev case3 : Bool
 case3 =
-    gives (λ b. same_bytes (drop 16 b) (0x08 ∷ 0x51 ∷ 0x07 ∷ replicate 31 0) && decodes b (pos 989 ∷ []))
+    gives (λ b. same_bytes (drop 16 b) (0x08 ∷ 0x51 ∷ 0x07 ∷ zeros 31) && decodes b (pos 989 ∷ []))
     (encode_call (settings H 255) (pos 1000 ∷ []) 1 8000 ample)
 
 -- 4. Peak 128: v 1; 129: 2; 32767 and 32768: 255
@@ -69,6 +72,18 @@ cases = case1 && case2 && case3 && case4 && case5 && case6 && case7 && case8 && 
 
 -- ---- what the cases leave open
 
+-- a stream's header: H, one channel, 8000 samples a second
+abbrev pub headed : ℕ → ℕ → List ℕ
+headed version samples = 83 ∷ 81 ∷ 86 ∷ 52 ∷ version ∷ 0 ∷ 1 ∷ 0 ∷ 64 ∷ 31 ∷ 0 ∷ 0 ∷ samples ∷ 0 ∷ 0 ∷ 0 ∷ []
+
+-- the same bytes but for one
+abbrev pub changed : ℕ → ℕ → List ℕ → List ℕ
+changed at byte d = take at d ++ (byte ∷ drop (suc at) d)
+
+-- the same header with two channels
+abbrev pub stereo : ℕ → ℕ → List ℕ
+stereo version samples = changed 6 2 (headed version samples)
+
 -- (i + 1) × f i, summed over i below n
 unfoldable pub weighted : (ℕ → ℕ) → ℕ → ℕ
 weighted f zero = 0
@@ -98,70 +113,45 @@ tables =
     && eqb (indexes H 16) 5828 && eqb (indexes L 8) 1562 && eqb (indexes LPlus 8) 1562
 
 -- slips seen in other players: L+ levels of version 1 in version 2; a later index winning a tie (starts 71 to 88 reach the same
--- sum); besides, a start of 88; a start that sums on normalised values would not pick; a threshold that just fits
-abbrev begins : ℕ → List ℕ → Bool
-begins sample front =
-    gives (λ b. same_bytes (take 3 (drop 16 b)) front) (encode_call (settings H 255) (pos sample ∷ []) 1 8000 ample)
+-- sum). Besides, with the Rust's answers: a start of 88; sums on normalised values, or of distances and not of their squares; a threshold
+-- that just fits, a half of a step that is just what is left, another part of a step than a quarter; bit 8 where input is the predictor;
+-- the higher of two codes that are equally near; the last code left out; the nearest before the clamp
+abbrev opens : Variant → List ℤ → List ℕ → Bool
+opens variant samples front =
+    gives (λ b. same_bytes (take 3 (drop 16 b)) front) (encode_call (settings variant 255) samples 1 8000 ample)
 
 abbrev slips : Bool
 slips =
     eq_z (stepped 2 LPlus zero_state 0).predictor (pos 1)
-    && begins 49 (1 ∷ 71 ∷ 7 ∷ []) && begins 79 (1 ∷ 88 ∷ 2 ∷ []) && begins 1 (1 ∷ 24 ∷ 7 ∷ []) && begins 3174 (25 ∷ 82 ∷ 7 ∷ [])
+    && opens H (pos 49 ∷ []) (1 ∷ 71 ∷ 7 ∷ []) && opens H (pos 79 ∷ []) (1 ∷ 88 ∷ 2 ∷ []) && opens H (pos 1 ∷ []) (1 ∷ 24 ∷ 7 ∷ [])
+    && opens H (neg_ℤ (pos 2035) ∷ pos 1058 ∷ []) (16 ∷ 86 ∷ 0x5c ∷ [])
+    && opens H (pos 3174 ∷ []) (25 ∷ 82 ∷ 7 ∷ []) && opens H (pos 741 ∷ neg_ℤ (pos 1652) ∷ []) (13 ∷ 88 ∷ 225 ∷ [])
+    && opens H (neg_ℤ (pos 2748) ∷ neg_ℤ (pos 474) ∷ []) (22 ∷ 83 ∷ 0x3e ∷ [])
+    && opens H (pos 0 ∷ pos 1 ∷ []) (1 ∷ 24 ∷ 0x70 ∷ []) && opens L (pos 0 ∷ pos 1 ∷ []) (1 ∷ 31 ∷ 0x18 ∷ [])
+    && opens L (negsuc 0 ∷ []) (1 ∷ 32 ∷ 7 ∷ [])
+    && opens LPlus (pos 89 ∷ pos 0 ∷ []) (1 ∷ 75 ∷ 0x33 ∷ [])
 
--- a version 3 stream of one H fragment
-abbrev good : ℕ → List ℕ → List ℕ
-good samples fragment = 83 ∷ 81 ∷ 86 ∷ 52 ∷ 3 ∷ 0 ∷ 1 ∷ 0 ∷ 64 ∷ 31 ∷ 0 ∷ 0 ∷ samples ∷ 0 ∷ 0 ∷ 0 ∷ fragment
+-- the clamps of predictor and index at their ends; peaks whose volume another divisor would round otherwise; both output gains at 255
+abbrev limits : Bool
+limits =
+    is_state (stepped 3 H (record { predictor = negsuc 32767; index = 88 }) 15) (negsuc 32767) 88
+    && is_state (stepped 3 H (record { predictor = pos 32767; index = 88 }) 7) (pos 32767) 88 && is_state (stepped 3 L zero_state 0) (pos 1) 0
+    && eqb (volume_of 257) 3 && eqb (volume_of 11179) 87
+    && eq_z (output_gain 2 255 (pos 256)) (pos 256) && eq_z (output_gain 3 255 (pos 256)) (pos 256)
 
--- unused bits: all but the codes of the last frame's own samples; an index of 88 passes and 89 does not
-abbrev ends : Bool
-ends =
-    inspects (good 1 (8 ∷ 88 ∷ 7 ∷ replicate 31 0)) 3 0 1 8000 1
-    && inspect_refused (good 1 (8 ∷ 88 ∷ 0x17 ∷ replicate 31 0)) 12 []
-    && inspects (good 63 (8 ∷ 88 ∷ (replicate 31 255 ++ (15 ∷ [])))) 3 0 1 8000 63
-    && inspect_refused (good 63 (8 ∷ 88 ∷ (replicate 31 255 ++ (16 ∷ [])))) 12 []
-    && inspect_refused (good 1 (8 ∷ 89 ∷ 7 ∷ replicate 31 0)) 11 (89 ∷ [])
-    && inspect_refused (good 64 (replicate 34 0 ++ (8 ∷ 0 ∷ 0x17 ∷ replicate 31 0))) 12 []
+-- two channels of three samples, interleaved, with a state and a volume for each; the samples are the Rust's
+abbrev interleaved : Bool
+interleaved =
+    decodes (stereo 2 3 ++ (255 ∷ 0x71 ∷ 2 ∷ zeros 30) ++ (128 ∷ 0x6f ∷ 5 ∷ zeros 30)) (pos 1 ∷ neg_ℤ (pos 5) ∷ pos 12 ∷ pos 7 ∷ pos 22 ∷ pos 26 ∷ [])
+    && decodes (stereo 3 3 ++ (255 ∷ 40 ∷ 0x71 ∷ 2 ∷ zeros 30) ++ (128 ∷ 50 ∷ 0x6f ∷ 5 ∷ zeros 30)) (pos 126 ∷ neg_ℤ (pos 824) ∷ pos 700 ∷ pos 707 ∷ pos 1111 ∷ pos 3003 ∷ [])
 
--- returned numbers of 13, 14 and 15, where they begin, and 4's bound
-abbrev bounds : Bool
-bounds =
-    refuses 13 (50 ∷ []) (encode_call (settings H 255) (pos 0 ∷ []) 1 8000 49)
-    && gives (λ b. eqb (length b) 50) (encode_call (settings H 255) (pos 0 ∷ []) 1 8000 50)
-    && refuses 13 (1 ∷ []) (decode_call (good 1 (replicate 34 0)) 0)
-    && refuses 14 [] (fragment_call 3 H zero_state (replicate 33 0) 63)
-    && refuses 14 [] (fragment_call 3 H zero_state (replicate 34 0) 64)
-    && gives (λ r. true) (fragment_call 3 H zero_state (replicate 34 0) 63)
-    && refuses 14 [] (fragment_call 2 L zero_state (replicate 25 0) 65)
-    && gives (λ r. true) (fragment_call 2 L (record { predictor = negsuc 32767; index = 88 }) (replicate 25 0) 64)
-    && refuses 15 [] (fragment_call 2 L (record { predictor = negsuc 32768; index = 88 }) (replicate 25 0) 64)
-    && refuses 15 [] (fragment_call 1 L (record { predictor = pos 32768; index = 0 }) (replicate 25 0) 64)
-    && refuses 15 [] (fragment_call 1 L (record { predictor = pos 0; index = 89 }) (replicate 25 0) 64)
-    && gives (λ r. true) (fragment_call 3 L (record { predictor = pos 32768; index = 89 }) (replicate 26 0) 1)
-    && not (too_many 4294967295) && too_many 4294967296
-
--- two causes at once: the first in the paper's order counts
-abbrev head : ℕ → ℕ → ℕ → ℕ → ℕ → ℕ → ℕ → List ℕ
-head letter version variant channels reserved rate samples =
-    letter ∷ 81 ∷ 86 ∷ 52 ∷ version ∷ variant ∷ channels ∷ reserved ∷ rate ∷ 0 ∷ 0 ∷ 0 ∷ samples ∷ 0 ∷ 0 ∷ 0 ∷ []
-
-abbrev orders : Bool
-orders =
-    encode_refused H 255 3 0 (pos 1 ∷ []) 1 (3 ∷ [])
-    && encode_refused H 255 2 0 (pos 1 ∷ []) 2 []
-    && refuses 3 [] (encode_call (settings H 255) (pos 1 ∷ []) 2 8000 0)
-    && inspect_refused (83 ∷ []) 5 []
-    && inspect_refused (head 82 4 3 3 1 0 0) 6 []
-    && inspect_refused (head 83 4 3 3 1 0 0) 7 (4 ∷ [])
-    && inspect_refused (head 83 0 3 3 1 0 0) 7 (0 ∷ [])
-    && inspect_refused (head 83 3 3 3 1 0 0) 8 (3 ∷ [])
-    && inspect_refused (head 83 3 2 3 1 0 0) 1 (3 ∷ [])
-    && inspect_refused (head 83 3 2 2 1 0 1) 9 (1 ∷ [])
-    && inspect_refused (head 83 3 2 2 0 0 1) 2 []
-    && inspect_refused (head 83 3 2 2 0 8 1) 10 (68 ∷ 16 ∷ [])
-    && inspect_refused (good 1 (8 ∷ 89 ∷ 0x17 ∷ replicate 31 0)) 11 (89 ∷ [])
-    && inspect_refused (good 64 ((8 ∷ 0 ∷ replicate 32 255) ++ (8 ∷ 89 ∷ replicate 32 0))) 12 []
-    && refuses 7 (4 ∷ []) (fragment_call 4 H zero_state [] 100)
-    && refuses 14 [] (fragment_call 2 H (record { predictor = pos 0; index = 89 }) [] 1)
+-- several frames of two channels: fragments stand frame by frame, left before right
+abbrev places : Bool
+places =
+    gives (λ (s : Sound). same_samples (drop 126 s.samples) (pos 126 ∷ neg_ℤ (pos 824) ∷ []))
+    (decode_call (stereo 3 64 ++ zeros 68 ++ (255 ∷ 40 ∷ 1 ∷ zeros 31) ++ (128 ∷ 50 ∷ 15 ∷ zeros 31)) ample)
+    && gives (λ b. same_bytes (drop 84 b) (8 ∷ 0x51 ∷ 7 ∷ zeros 65))
+    (encode_call (settings H 255) (replicate 126 (pos 0) ++ (pos 1000 ∷ pos 0 ∷ [])) 2 8000 ample)
 
 -- a call that is refused changes neither output nor state; one that is not fills the front; an index byte above 88 counts as 88. Only
 -- results of versions 1, 2 move the state
@@ -175,22 +165,22 @@ abbrev calls : Bool
 calls =
     let state : State = record { predictor = pos 5; index = 3 } in
     let out = pos 1 ∷ pos 2 ∷ [] in
-    untouched (called 9 H state (replicate 34 0) out) && untouched (called 2 H state (replicate 34 0) out)
-    && same_samples (called 2 H state (255 ∷ 7 ∷ replicate 31 0) out).output (pos 23 ∷ pos 25 ∷ [])
-    && same (called 3 H state (255 ∷ 200 ∷ 7 ∷ replicate 31 0) out) (called 3 H state (255 ∷ 88 ∷ 7 ∷ replicate 31 0) out)
-    && moves 1 (fragment_call 1 H state (replicate 33 0) 2) && moves 2 (fragment_call 2 H state (replicate 33 0) 2)
-    && not (moves 3 (fragment_call 3 H state (replicate 34 0) 2)) && not (moves 2 (fragment_call 2 H state (replicate 34 0) 2))
+    untouched (called 9 H state (zeros 34) out) && untouched (called 2 H state (zeros 34) out)
+    && same_samples (called 2 H state (255 ∷ 7 ∷ zeros 31) out).output (pos 23 ∷ pos 25 ∷ [])
+    && same (called 3 H state (255 ∷ 200 ∷ 7 ∷ zeros 31) out) (called 3 H state (255 ∷ 88 ∷ 7 ∷ zeros 31) out)
+    && moves 1 (fragment_call 1 H state (zeros 33) 2) && moves 2 (fragment_call 2 H state (zeros 33) 2)
+    && not (moves 3 (fragment_call 3 H state (zeros 34) 2)) && not (moves 2 (fragment_call 2 H state (zeros 34) 2))
 
 -- volume 0 with any codes is accepted, and gives silence; in versions 1, 2 the state moves on, even where v is 0
 abbrev silent : Bool
 silent =
-    let stream3 = good 1 (0 ∷ 88 ∷ 7 ∷ replicate 31 0) in
-    let stream2 = head 83 2 0 1 0 8 1 ++ (0 ∷ 15 ∷ replicate 31 0) in
+    let stream3 = headed 3 1 ++ (0 ∷ 88 ∷ 7 ∷ zeros 31) in
+    let stream2 = headed 2 1 ++ (0 ∷ 15 ∷ zeros 31) in
     inspects stream3 3 0 1 8000 1 && decodes stream3 (pos 0 ∷ [])
-    && inspects stream2 2 0 1 8 1 && decodes stream2 (pos 0 ∷ [])
-    && plays 3 H (pos 0) 0 1 (0 ∷ 88 ∷ 7 ∷ replicate 31 0) (pos 0) 0 (pos 0 ∷ [])
-    && plays 2 H (pos 0) 0 1 (0 ∷ 15 ∷ replicate 31 0) (neg_ℤ (pos 11)) 8 (pos 0 ∷ [])
-    && plays 1 L (pos 0) 0 1 (0 ∷ 3 ∷ replicate 23 0) (pos 6) 6 (pos 0 ∷ [])
+    && inspects stream2 2 0 1 8000 1 && decodes stream2 (pos 0 ∷ [])
+    && plays 3 H (pos 0) 0 1 (0 ∷ 88 ∷ 7 ∷ zeros 31) (pos 0) 0 (pos 0 ∷ [])
+    && plays 2 H (pos 0) 0 1 (0 ∷ 15 ∷ zeros 31) (neg_ℤ (pos 11)) 8 (pos 0 ∷ [])
+    && plays 1 L (pos 0) 0 1 (0 ∷ 3 ∷ zeros 23) (pos 6) 6 (pos 0 ∷ [])
 
 abbrev pub further : Bool
-further = tables && slips && ends && bounds && orders && calls && silent
+further = tables && slips && limits && interleaved && places && calls && silent

@@ -129,16 +129,20 @@ encoded k pcm channels rate =
 unfoldable pub too_many : ℕ → Bool
 too_many samples = ltb 4294967295 samples
 
+-- the checks of a call, by its numbers: channels, rate, samples in all, bytes needed, and room: 1, 2, 3, 4, then 13
+abbrev pub encode_checks : {A : Type 0} → ℕ → ℕ → ℕ → ℕ → ℕ → Outcome A → Outcome A
+encode_checks channels rate count needed room rest =
+    need (channels_fit (version_for channels) channels) 1 (channels ∷ [])
+    ⟫ refuse_if (eqb rate 0) 2 []
+    ⟫ need (eqb (count % channels) 0) 3 []
+    ⟫ refuse_if (too_many (count / channels)) 4 []
+    ⟫ refuse_if (ltb room needed) 13 (needed ∷ [])
+    ⟫ rest
+
 -- an encoder call with room for so many bytes
 unfoldable pub encode_call : Settings → List ℤ → ℕ → ℕ → ℕ → Outcome (List ℕ)
 encode_call k pcm channels rate room =
-    let needed = stream_length (header_written k pcm channels rate) in
-    need (channels_fit (version_for channels) channels) 1 (channels ∷ [])
-    ⟫ refuse_if (eqb rate 0) 2 []
-    ⟫ need (eqb (length pcm % channels) 0) 3 []
-    ⟫ refuse_if (too_many (length pcm / channels)) 4 []
-    ⟫ refuse_if (ltb room needed) 13 (needed ∷ [])
-    ⟫ result (encoded k pcm channels rate)
+    encode_checks channels rate (length pcm) (stream_length (header_written k pcm channels rate)) room ⟫ result (encoded k pcm channels rate)
 
 -- ---- what channel separation says of an accepted encoding: channel c has the frames of its own samples, and its fragment of each
 -- is the one that these samples alone give

@@ -1,93 +1,22 @@
--- What the worked cases leave open beside the further checks, and every refusal of every call: each a test that computes. Assumes nothing.
-use Rattle.std.specs.Prelude.{ℕ, suc, ◌-◌, ◌/◌, ◌%◌, Bool, ◌&&◌, List, [], ◌∷◌, ◌++◌, eqb, ltb, ℤ, pos, negsuc, neg_ℤ, length, take, drop, replicate}
-use Rattle.outcome.specs.Outcome.{Outcome, result, need, refuse_if, ◌⟫◌}
+-- Every refusal of every call, by call and number: inputs that give it, with the numbers returned; their neighbours across the bound,
+-- most of which are accepted; and its place in the order, an input that has the next cause too, or every later one. Each is a test that
+-- computes, and the expectations are 01's. Assumes nothing.
+use Rattle.std.specs.Prelude.{ℕ, suc, ◌-◌, Bool, ◌&&◌, List, [], ◌∷◌, ◌++◌, eqb, ℤ, pos, negsuc, length, take, replicate}
+use Rattle.outcome.specs.Outcome.{Outcome, result, ◌⟫◌}
 use Rattle.outcome.specs.Tests.{gives, accepts, refuses}
-use Rattle.lists.specs.Tests.{eq_z, same_bytes, same_samples}
-use Rattle.format.specs.Layout.{channels_fit, version_for, fragment_size, stream_length}
-use Rattle.format.specs.Step.{stepped}
-use Rattle.format.specs.Gain.{volume_of, output_gain}
+use Rattle.format.specs.Layout.{fragment_size, stream_length}
 use Rattle.format.specs.Decode.{DecodedFragment, zero_state, fragment_call}
-use Rattle.format.specs.Encode.{too_many, encode_call}
+use Rattle.format.specs.Encode.{encode_checks, encode_call}
 use Rattle.format.specs.Inspect.{Sound, decode_call}
-use Rattle.format.specs.Tests.{is_state, ample, settings, inspects, inspect_refused, decodes}
+use Rattle.format.specs.Tests.{settings, encode_refused, inspects, inspect_refused}
+use Rattle.format.specs.Cases.{zeros, headed, changed, stereo}
 use Rattle.format.specs.declared.Variant.{Variant}
 use Rattle.format.specs.declared.Variant.TheVariants.{H, L, LPlus}
 use Rattle.format.specs.declared.Header.{Header}
 
--- slips seen in other players: L+ levels of version 1 in version 2; a later index winning a tie (starts 71 to 88 reach the same
--- sum). Besides, with the Rust's answers: a start of 88; sums on normalised values, or of distances and not of their squares; a threshold
--- that just fits, a half of a step that is just what is left, another part of a step than a quarter; bit 8 where input is the predictor;
--- the higher of two codes that are equally near; the last code left out; the nearest before the clamp
-abbrev opens : Variant → List ℤ → List ℕ → Bool
-opens variant samples front =
-    gives (λ b. same_bytes (take 3 (drop 16 b)) front) (encode_call (settings variant 255) samples 1 8000 ample)
+-- ---- the encoder
 
-abbrev further_slips : Bool
-further_slips =
-    eq_z (stepped 2 LPlus zero_state 0).predictor (pos 1)
-    && opens H (pos 49 ∷ []) (1 ∷ 71 ∷ 7 ∷ []) && opens H (pos 79 ∷ []) (1 ∷ 88 ∷ 2 ∷ []) && opens H (pos 1 ∷ []) (1 ∷ 24 ∷ 7 ∷ [])
-    && opens H (neg_ℤ (pos 2035) ∷ pos 1058 ∷ []) (16 ∷ 86 ∷ 0x5c ∷ [])
-    && opens H (pos 3174 ∷ []) (25 ∷ 82 ∷ 7 ∷ []) && opens H (pos 741 ∷ neg_ℤ (pos 1652) ∷ []) (13 ∷ 88 ∷ 225 ∷ [])
-    && opens H (neg_ℤ (pos 2748) ∷ neg_ℤ (pos 474) ∷ []) (22 ∷ 83 ∷ 0x3e ∷ [])
-    && opens H (pos 0 ∷ pos 1 ∷ []) (1 ∷ 24 ∷ 0x70 ∷ []) && opens L (pos 0 ∷ pos 1 ∷ []) (1 ∷ 31 ∷ 0x18 ∷ [])
-    && opens L (negsuc 0 ∷ []) (1 ∷ 32 ∷ 7 ∷ [])
-    && opens LPlus (pos 89 ∷ pos 0 ∷ []) (1 ∷ 75 ∷ 0x33 ∷ [])
-
--- the clamps of predictor and index at their ends; peaks whose volume another divisor would round otherwise; both output gains at 255
-abbrev limits : Bool
-limits =
-    is_state (stepped 3 H (record { predictor = negsuc 32767; index = 88 }) 15) (negsuc 32767) 88
-    && is_state (stepped 3 H (record { predictor = pos 32767; index = 88 }) 7) (pos 32767) 88 && is_state (stepped 3 L zero_state 0) (pos 1) 0
-    && eqb (volume_of 257) 3 && eqb (volume_of 11179) 87
-    && eq_z (output_gain 2 255 (pos 256)) (pos 256) && eq_z (output_gain 3 255 (pos 256)) (pos 256)
-
-abbrev zeros : ℕ → List ℕ
-zeros n = replicate n 0
-
--- a stream's header: H, one channel, 8000 samples a second
-abbrev headed : ℕ → ℕ → List ℕ
-headed version samples = 83 ∷ 81 ∷ 86 ∷ 52 ∷ version ∷ 0 ∷ 1 ∷ 0 ∷ 64 ∷ 31 ∷ 0 ∷ 0 ∷ samples ∷ 0 ∷ 0 ∷ 0 ∷ []
-
--- the same bytes but for one
-abbrev changed : ℕ → ℕ → List ℕ → List ℕ
-changed at byte d = take at d ++ (byte ∷ drop (suc at) d)
-
--- two channels of three samples, interleaved, with a state and a volume for each; the samples are the Rust's
-abbrev stereo : ℕ → ℕ → List ℕ
-stereo version samples = changed 6 2 (headed version samples)
-
-abbrev interleaved : Bool
-interleaved =
-    decodes (stereo 2 3 ++ (255 ∷ 0x71 ∷ 2 ∷ zeros 30) ++ (128 ∷ 0x6f ∷ 5 ∷ zeros 30)) (pos 1 ∷ neg_ℤ (pos 5) ∷ pos 12 ∷ pos 7 ∷ pos 22 ∷ pos 26 ∷ [])
-    && decodes (stereo 3 3 ++ (255 ∷ 40 ∷ 0x71 ∷ 2 ∷ zeros 30) ++ (128 ∷ 50 ∷ 0x6f ∷ 5 ∷ zeros 30)) (pos 126 ∷ neg_ℤ (pos 824) ∷ pos 700 ∷ pos 707 ∷ pos 1111 ∷ pos 3003 ∷ [])
-
--- several frames of two channels: fragments stand frame by frame, left before right
-abbrev places : Bool
-places =
-    gives (λ (s : Sound). same_samples (drop 126 s.samples) (pos 126 ∷ neg_ℤ (pos 824) ∷ []))
-    (decode_call (stereo 3 64 ++ zeros 68 ++ (255 ∷ 40 ∷ 1 ∷ zeros 31) ++ (128 ∷ 50 ∷ 15 ∷ zeros 31)) ample)
-    && gives (λ b. same_bytes (drop 84 b) (8 ∷ 0x51 ∷ 7 ∷ zeros 65))
-    (encode_call (settings H 255) (replicate 126 (pos 0) ++ (pos 1000 ∷ pos 0 ∷ [])) 2 8000 ample)
-
-abbrev pub more : Bool
-more = further_slips && limits && interleaved && places
-
--- ---- every refusal of every call, by call and number: inputs that give it, with the numbers returned; their neighbours across the
--- bound, which are accepted; and last its place in the order, an input that has the next cause too, or every later one
-
--- the encoder's checks, from their numbers alone: channels, rate, samples in all, bytes needed, and room; they are those of encode_call
--- (encode_by_numbers in proofs/Claims.antt)
-abbrev pub encode_checks : {A : Type 0} → ℕ → ℕ → ℕ → ℕ → ℕ → Outcome A → Outcome A
-encode_checks channels rate count needed room rest =
-    need (channels_fit (version_for channels) channels) 1 (channels ∷ [])
-    ⟫ refuse_if (eqb rate 0) 2 []
-    ⟫ need (eqb (count % channels) 0) 3 []
-    ⟫ refuse_if (too_many (count / channels)) 4 []
-    ⟫ refuse_if (ltb room needed) 13 (needed ∷ [])
-    ⟫ rest
-
--- the encoder, by its numbers. 12884901889 samples have causes 3 and 4 in stereo,
--- and would in three channels
+-- by its numbers. 12884901889 samples have causes 3 and 4 in stereo, and would in three channels
 abbrev encoding : ℕ → ℕ → ℕ → ℕ → ℕ → Outcome ℕ
 encoding channels rate count needed room = encode_checks channels rate count needed room ⟫ result needed
 
@@ -95,19 +24,19 @@ abbrev encode1 : Bool
 encode1 =
     refuses 1 (0 ∷ []) (encoding 0 1 0 1 1) && refuses 1 (3 ∷ []) (encoding 3 1 3 1 1) && refuses 1 (255 ∷ []) (encoding 255 1 0 1 1)
     && accepts (encoding 1 1 3 1 1) && accepts (encoding 2 1 2 1 1)
-    && refuses 1 (3 ∷ []) (encoding 3 0 12884901889 1 0)
+    && refuses 1 (3 ∷ []) (encoding 3 0 12884901889 1 0) && encode_refused H 255 3 0 (pos 1 ∷ []) 1 (3 ∷ [])
 
 abbrev encode2 : Bool
 encode2 =
     refuses 2 [] (encoding 1 0 1 1 1) && refuses 2 [] (encoding 2 0 2 1 1)
     && accepts (encoding 1 1 1 1 1) && accepts (encoding 2 4294967295 2 1 1)
-    && refuses 2 [] (encoding 2 0 12884901889 1 0)
+    && refuses 2 [] (encoding 2 0 12884901889 1 0) && encode_refused H 255 2 0 (pos 1 ∷ []) 2 []
 
 abbrev encode3 : Bool
 encode3 =
     refuses 3 [] (encoding 2 1 1 1 1) && refuses 3 [] (encoding 2 1 3 1 1)
     && accepts (encoding 2 1 0 1 1) && accepts (encoding 2 1 2 1 1) && accepts (encoding 1 1 1 1 1)
-    && refuses 3 [] (encoding 2 1 12884901889 1 0)
+    && refuses 3 [] (encoding 2 1 12884901889 1 0) && refuses 3 [] (encode_call (settings H 255) (pos 1 ∷ []) 2 8000 0)
 
 abbrev encode4 : Bool
 encode4 =
@@ -128,7 +57,9 @@ encode13 =
     && refuses 13 (68 ∷ []) (stereo 67) && gives (λ b. eqb (length b) 68) (stereo 68)
     && eqb (stream_length (most 1 H)) 2317918906 && eqb (stream_length (most 2 LPlus)) 3545052436
 
--- inspection: an empty stream of version 3
+-- ---- inspection
+
+-- an empty stream of version 3
 abbrev empty : List ℕ
 empty = headed 3 0
 
@@ -223,7 +154,8 @@ inspect12 =
     && inspect_refused (stereo 3 1 ++ one ++ more) 12 [] && inspects (stereo 3 1 ++ one ++ one) 3 0 2 8000 1
     && inspect_refused (stereo 3 127 ++ zeros 170 ++ more) 12 [] && inspects (stereo 3 127 ++ zeros 204) 3 0 2 8000 127
 
--- the whole-stream decoder: what inspection refuses (decode_refuses in proofs/Claims.antt), then 13
+-- ---- the whole-stream decoder: what inspection refuses (decode_refuses in proofs/Claims.antt), then 13
+
 abbrev decode13 : Bool
 decode13 =
     let silence = zeros 34 in
@@ -235,7 +167,9 @@ decode13 =
     && gives (exactly 0) (decode_call empty 0)
     && refuses 12 [] (decode_call (headed 3 1 ++ replicate 34 16) 0)
 
--- the fragment decoder: a fragment of zeros of that size, for so many samples
+-- ---- the fragment decoder
+
+-- a fragment of zeros of that size, for so many samples
 abbrev playing : ℕ → Variant → ℕ → ℕ → Outcome DecodedFragment
 playing version variant size n = fragment_call version variant zero_state (zeros size) n
 

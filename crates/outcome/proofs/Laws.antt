@@ -63,6 +63,10 @@ module _ {A : Type 0} (b : Bool) (n : ℕ) (vs : List ℕ) (rest : Outcome A) wh
       go true e = (refl, e)
       go false e = (cc, cc)
 
+-- no call gives both
+pub one_way : {A : Type 0} {a : A} {n : ℕ} {vs : List ℕ} → refused n vs ≡ result a → ⊥
+one_way e = let z : true ≡ false = cc in not_both true refl z
+
 -- ---- a call after a call
 
 module _ {A B : Type 0} where
@@ -77,7 +81,7 @@ module _ {A B : Type 0} where
   pub then_passed : (o : Outcome A) (k : A → Outcome B) {b : B} → and_then o k ≡ result b → (a : A) × (o ≡ result a) × (k a ≡ result b)
   unfolding and_then
   then_passed (result a) k e = (a, refl, e)
-  then_passed (refused n vs) k e = let z : true ≡ false = cc in absurd (not_both true refl z)
+  then_passed (refused n vs) k e = absurd (one_way e)
 
   pub on_result_lem : (f : A → B) (o : Outcome A) {a : A} → o ≡ result a → on_result f o ≡ result (f a)
   unfolding on_result
@@ -88,6 +92,11 @@ module _ {A B : Type 0} where
   on_refused f o e = rw (← e)
 
 -- ---- what a chain's refusals are
+
+pub refusing_so : {A : Type 0} (P Q : ℕ → List ℕ → Type 0) → ((n : ℕ) (vs : List ℕ) → P n vs → Q n vs) → (o : Outcome A) → Refusing P o → Refusing Q o
+unfolding Refusing
+refusing_so P Q h (result a) p = p
+refusing_so P Q h (refused n vs) p = h n vs p
 
 module _ {A : Type 0} (P : ℕ → List ℕ → Type 0) where
   pub refusing_if : (b : Bool) (n : ℕ) (vs : List ℕ) (rest : Outcome A) → P n vs → Refusing P rest → Refusing P (refuse_if b n vs rest)

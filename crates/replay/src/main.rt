@@ -1,184 +1,170 @@
-// Replays answers that were recorded from the Rust and from decoders of IMA ADPCM. Each file of data/ holds questions of one kind: to the
-// encoder, to inspection, to the decoder, to the fragment decoder, to the reader and the writer of WAV files, to the converter and to the
-// inspector, each with the Rust's answer as bytes. The file ima has more for both decoders, with what those of IMA ADPCM gave.
+// Replays answers that were recorded from the Rust and from decoders of IMA ADPCM. Each file of data/ holds questions of one kind, each
+// with its answer as bytes: to the calls for C, to the converter and to the inspector. The file ima has more for both decoders, with what
+// those of IMA ADPCM gave. The file wrong has questions of every kind with answers that are wrong in one byte, all of which must differ.
 // oracle/README.md has the layout. Each question is asked of the proved functions, and the answer's bytes are compared. The program prints
 // for each file how many answers there were and how many differ.
 #![tactic(auto)]
 
-ghost use Rattle.outcome.specs.Outcome.{listed};
-
-use format::{Error, Settings, State, Variant};
-use outcome::{Refusal, Values};
-use postlapse::Answer;
+use format::State;
+use postlapse::{Answer, HeaderAnswer, WaveAnswer};
 use records::{Fragment, Kind, Question, front};
 use std::io;
 use text::Printer;
-use wav_format::WaveError;
 
-// The most samples of a question.
+// The places of the arrays that are lent to the calls.
 const SAMPLES: usize = 1024;
 
-// The places for a stream and for a WAV file of so many samples, more than enough, and what each holds before a call.
-const STREAM: usize = 1024;
+const BYTES: usize = 2092;
 
-const FILE: usize = 2148;
-
+// What each place of them holds before a call.
 const BYTE: u8 = 165;
 
-// The most samples of a fragment, and the bytes of the fragment decoder's longest answer: 1, the state's 17 bytes, and the samples.
-const FRAGMENT: usize = Variant::LEGACY_FRAGMENT_SAMPLES;
+const SAMPLE: i16 = -23131;
 
-const PLAYED: usize = 18 + 2 * FRAGMENT;
-
-// A refusal: 0, its number, how many numbers it returns, and those in eight bytes each. Where the answer is a result, it is put already.
-fn finish<E: Refusal>(asked: Result<(), E>, answer: &mut Printer) {
-    let Err(refusal) = asked else {
-        return;
-    };
-    answer.word(&[0, refusal.number()]);
-    match refusal.values() {
-        Values::Zero => answer.word(&[0]),
-        Values::One(first) => {
-            answer.word(&[1]);
-            answer.word(&first.to_le_bytes());
-        }
-        Values::Two(first, second) => {
-            answer.word(&[2]);
-            answer.word(&first.to_le_bytes());
-            answer.word(&second.to_le_bytes());
-        }
-    }
+// The first `count` places of an output; none where a place behind them has been changed.
+fn filled<T: PartialEq + Copy>(places: &[T], count: usize, before: T) -> Option<&[T]> {
+    let (first, rest) = places.split_at_checked(count)?;
+    rest.iter().all(|place| *place == before).then_some(first)
 }
 
-// The samples of a question's bytes; none where they are too many.
+// How many places an answer says that the call has filled. An answer for C has its refusal as a number.
+fn filled_count(a: Answer) -> usize {
+    if a.refusal == 0 { a.first } else { 0 }
+}
+
+// Puts the numbers of an answer, in eight bytes each. It says how many places it has filled.
+fn put_numbers(answer: &mut Printer, a: Answer) -> usize {
+    answer.word(&a.refusal.to_le_bytes());
+    answer.word(&a.first.to_le_bytes());
+    answer.word(&a.second.to_le_bytes());
+    filled_count(a)
+}
+
+// Puts the numbers of an answer, and its header. Here and in `play` the numbers are taken from the struct for C by hand: a conversion
+// in postlapse would serve this program alone.
+fn put_header(answer: &mut Printer, a: HeaderAnswer) -> usize {
+    put_numbers(
+        answer,
+        Answer {
+            refusal: a.refusal,
+            first: a.first,
+            second: a.second,
+        },
+    );
+    answer.word(&[a.version, a.variant, a.channels]);
+    answer.word(&u64::from(a.rate).to_le_bytes());
+    answer.word(&u64::from(a.samples).to_le_bytes());
+    a.samples as usize * a.channels as usize
+}
+
+// Puts the numbers of the fragment decoder's answer, and the state after it.
+fn put_played(answer: &mut Printer, a: Answer, state: State) -> usize {
+    let count = put_numbers(answer, a);
+    records::put_state(answer, state);
+    count
+}
+
+// The samples of a question's bytes, loaded by the call for C; none where they are too many.
 fn load<'a>(bytes: &[u8], pcm: &'a mut [i16]) -> &'a [i16] {
-    let count = wav_samples::load_samples(bytes, pcm).unwrap_or(0);
+    let count = filled_count(postlapse::postlapse_load_samples(bytes, pcm));
     front(pcm, count)
 }
 
-// Kind 1: variant, gain, channels, rate, samples. A result: 1, and the stream.
-fn ask_encoder(mut question: Question, answer: &mut Printer) -> Result<(), Error> {
-    let variant = Variant::try_from(question.byte())?;
+// Asks a call that writes bytes for samples, with so many places for them. The numbers, and the bytes.
+fn ask_bytes<F: FnOnce(&[i16], &mut [u8]) -> Answer>(
+    answer: &mut Printer,
+    samples: &[u8],
+    room: usize,
+    call: F,
+) -> Option<()>
+    requires { F.IsAlwaysCallable call }
+{
+    let mut pcm = [0i16; SAMPLES];
+    let mut places = [BYTE; BYTES];
+    let a = call(load(samples, &mut pcm), places.get_mut(..room)?);
+    let count = put_numbers(answer, a);
+    answer.word(filled(&places, count, BYTE)?);
+    Some(())
+}
+
+// Asks a call that writes samples, with so many places for them. What the call puts into the answer, and the samples.
+fn ask_samples<F: FnOnce(&mut Printer, &mut [i16]) -> usize>(
+    answer: &mut Printer,
+    room: usize,
+    call: F,
+) -> Option<()>
+    requires { F.IsAlwaysCallable call }
+{
+    let mut pcm = [SAMPLE; SAMPLES];
+    let count = call(answer, pcm.get_mut(..room)?);
+    records::put_samples(answer, filled(&pcm, count, SAMPLE)?);
+    Some(())
+}
+
+// Kind 1: variant, gain, channels, rate, room, samples.
+fn ask_encoder(mut question: Question, answer: &mut Printer) -> Option<()> {
+    let variant = question.byte();
     let gain = question.byte();
     let channels = question.byte();
     let rate = question.word();
-    let mut pcm = [0i16; SAMPLES];
-    let samples = load(question.rest, &mut pcm);
-    let mut stream = [BYTE; STREAM];
-    let length = encoder::encode(
-        Settings { variant, gain },
-        samples,
-        channels,
-        rate,
-        &mut stream,
-    )?;
-    answer.word(&[1]);
-    answer.word(front(&stream, length));
-    Ok(())
-}
-
-// Kind 2: a stream. A result: 1, version, variant, channels, rate, samples.
-fn ask_inspection(question: Question, answer: &mut Printer) -> Result<(), Error> {
-    let header = inspect::inspect(question.rest)?;
-    answer.word(&[1, header.version, header.variant.into(), header.channels]);
-    answer.word(&u64::from(header.rate).to_le_bytes());
-    answer.word(&u64::from(header.samples).to_le_bytes());
-    Ok(())
-}
-
-// Kind 3: a stream. A result: 1, and the samples.
-fn ask_decoder(question: Question, answer: &mut Printer) -> Result<(), Error> {
-    let mut pcm = [0i16; SAMPLES];
-    let header = decoder::decode(question.rest, &mut pcm)?;
-    let count = header.samples as usize * header.channels as usize;
-    answer.word(&[1]);
-    records::put_samples(answer, front(&pcm, count));
-    Ok(())
-}
-
-// Kind 4: a WAV file. A result: 1, channels, rate, and the sample bytes.
-fn ask_wave_reader(question: Question, answer: &mut Printer) -> Result<(), WaveError> {
-    let file = question.rest;
-    let wave = wav::read_pcm16_wave(file)?;
-    answer.word(&[1]);
-    answer.word(&wave.channels.to_le_bytes());
-    answer.word(&u64::from(wave.rate).to_le_bytes());
-    answer.word(wav::wave_samples(file));
-    Ok(())
-}
-
-// Kind 8: channels, rate, samples. A result: 1, and the file.
-fn ask_wave_writer(mut question: Question, answer: &mut Printer) -> Result<(), WaveError> {
-    let channels = question.byte();
-    let rate = question.word();
-    let mut pcm = [0i16; SAMPLES];
-    let samples = load(question.rest, &mut pcm);
-    let mut file = [BYTE; FILE];
-    let length = wav_writer::write_pcm16_wave(channels, rate, samples, &mut file)?;
-    answer.word(&[1]);
-    answer.word(front(&file, length));
-    Ok(())
-}
-
-// A result of the fragment decoder: 1, the state after it, and the samples.
-fn put_played(answer: &mut Printer, state: State, samples: &[i16]) {
-    answer.word(&[1]);
-    records::put_state(answer, state);
-    records::put_samples(answer, samples);
-}
-
-// The fragment decoder with the state by value.
-fn play(fragment: Fragment, pcm: &mut [i16], answer: &mut Printer) -> Result<(), Error> {
-    let variant = Variant::try_from(fragment.variant)?;
-    let r = fragment::decode_one(
-        fragment.version,
-        variant,
-        fragment.state,
-        fragment.bytes,
-        pcm,
-    );
-    let count = r.answer?;
-    put_played(answer, r.state, front(pcm, count));
-    Ok(())
-}
-
-// A refusal of the fragment decoder with the state lent.
-#[derive(Clone, Copy)]
-struct Lent {
-    number: u8,
-    values: Values,
-}
-
-impl Refusal for Lent {
-    ghost number_of = { λ lent. lent.number };
-
-    ghost values_of = { λ lent. listed lent.values };
-
-    fn number(self) -> u8 {
-        self.number
-    }
-
-    fn values(self) -> Values {
-        self.values
-    }
-}
-
-// How many samples an answer for C gives, which has its refusal as a number, or why it refuses. 7 and 8 return a number, and the fragment
-// decoder's other refusals none.
-fn lent_count(answer: Answer) -> Result<usize, Lent> {
-    let values = match answer.refusal {
-        0 => return Ok(answer.first),
-        7 | 8 => Values::One(answer.first),
-        _ => Values::Zero,
-    };
-    Err(Lent {
-        number: u8::try_from(answer.refusal).unwrap_or(u8::MAX),
-        values,
+    let room = question.word() as usize;
+    ask_bytes(answer, question.rest, room, |pcm: &[i16], out: &mut [u8]| {
+        postlapse::postlapse_encode(pcm, channels, rate, variant, gain, out)
     })
 }
 
+// Kind 8: channels, rate, room, samples.
+fn ask_wave_writer(mut question: Question, answer: &mut Printer) -> Option<()> {
+    let channels = question.byte();
+    let rate = question.word();
+    let room = question.word() as usize;
+    ask_bytes(answer, question.rest, room, |pcm: &[i16], out: &mut [u8]| {
+        postlapse::postlapse_write_wave(channels, rate, pcm, out)
+    })
+}
+
+// Kind 3: room, a stream.
+fn ask_decoder(mut question: Question, answer: &mut Printer) -> Option<()> {
+    let room = question.word() as usize;
+    let stream = question.rest;
+    ask_samples(answer, room, |answer: &mut Printer, pcm: &mut [i16]| {
+        put_header(answer, postlapse::postlapse_decode(stream, pcm))
+    })
+}
+
+// Kind 10: room, bytes.
+fn ask_sample_reader(mut question: Question, answer: &mut Printer) -> Option<()> {
+    let room = question.word() as usize;
+    let bytes = question.rest;
+    ask_samples(answer, room, |answer: &mut Printer, pcm: &mut [i16]| {
+        put_numbers(answer, postlapse::postlapse_load_samples(bytes, pcm))
+    })
+}
+
+// The fragment decoder with the state by value. Its answer has no second number.
+fn play(fragment: Fragment, answer: &mut Printer, pcm: &mut [i16]) -> usize {
+    let a = postlapse::postlapse_decode_fragment(
+        fragment.version,
+        fragment.variant,
+        fragment.state.predictor,
+        fragment.state.index,
+        fragment.bytes,
+        pcm,
+    );
+    let numbers = Answer {
+        refusal: a.refusal,
+        first: a.first,
+        second: 0,
+    };
+    let state = State {
+        predictor: a.predictor,
+        index: a.index,
+    };
+    put_played(answer, numbers, state)
+}
+
 // The same with the state lent.
-fn play_lent(fragment: Fragment, pcm: &mut [i16], answer: &mut Printer) -> Result<(), Lent> {
+fn play_lent(fragment: Fragment, answer: &mut Printer, pcm: &mut [i16]) -> usize {
     let r = postlapse::decode_through_lent(
         fragment.version,
         fragment.variant,
@@ -186,43 +172,81 @@ fn play_lent(fragment: Fragment, pcm: &mut [i16], answer: &mut Printer) -> Resul
         fragment.bytes,
         pcm,
     );
-    let count = lent_count(r.answer)?;
-    put_played(answer, r.state, front(pcm, count));
-    Ok(())
+    put_played(answer, r.answer, r.state)
 }
 
-// Kind 7: version, variant, count, state, a fragment. A result: 1, the state after it, and the samples. It is asked by value and with
-// the state lent; where the two answers differ, it has none. `replay_calls` does the same over its own room: they share the comparison
-// alone.
+// Kind 7: version, variant, count, state, a fragment. It is asked by value and with the state lent; where the two answers differ, it
+// has none.
 fn ask_fragment_decoder(question: Question, answer: &mut Printer) -> Option<()> {
     let fragment = question.fragment();
     let count = fragment.count as usize;
-    let mut pcm = [0i16; FRAGMENT];
-    finish(play(fragment, pcm.get_mut(..count)?, answer), answer);
-    let mut lent_pcm = [0i16; FRAGMENT];
-    let mut lent_out = [0u8; PLAYED];
+    ask_samples(
+        answer,
+        count,
+        |answer: &mut Printer, pcm: &mut [i16]| play(fragment, answer, pcm),
+    )?;
+    let mut lent_out = [0u8; BYTES];
     let mut lent = Printer::new(&mut lent_out);
-    finish(
-        play_lent(fragment, lent_pcm.get_mut(..count)?, &mut lent),
+    ask_samples(
         &mut lent,
-    );
+        count,
+        |answer: &mut Printer, pcm: &mut [i16]| play_lent(fragment, answer, pcm),
+    )?;
     (answer.text() == lent.text()).then_some(())
+}
+
+// Kinds 4 and 9: what a WAV file says, and where its sample bytes lie, and these. Where they are not the part of the file that start and
+// size name, there is no answer.
+fn put_read(answer: &mut Printer, file: &[u8], a: WaveAnswer, samples: &[u8]) -> Option<()> {
+    answer.word(&a.refusal.to_le_bytes());
+    answer.word(&a.channels.to_le_bytes());
+    answer.word(&u64::from(a.rate).to_le_bytes());
+    answer.word(&a.start.to_le_bytes());
+    answer.word(&a.size.to_le_bytes());
+    if samples != file.get(a.start..)?.get(..a.size)? {
+        return None;
+    }
+    answer.word(samples);
+    Some(())
 }
 
 // Asks a question, and puts its answer. None where it has none, so that `?` leaves it.
 fn ask(mut question: Question, answer: &mut Printer) -> Option<()> {
-    match Kind::try_from(question.byte()).ok()? {
-        Kind::Encoder => finish(ask_encoder(question, answer), answer),
-        Kind::Inspection => finish(ask_inspection(question, answer), answer),
-        Kind::Decoder => finish(ask_decoder(question, answer), answer),
-        Kind::WaveReader => finish(ask_wave_reader(question, answer), answer),
-        Kind::WaveWriter => finish(ask_wave_writer(question, answer), answer),
-        Kind::Converter => records::put_printed(answer, question.rest, commands::convert),
-        Kind::Inspector => records::put_printed(answer, question.rest, commands::report),
-        Kind::FragmentDecoder => return ask_fragment_decoder(question, answer),
-        Kind::StrictReader | Kind::SampleReader => return None,
+    let kind = Kind::try_from(question.byte()).ok()?;
+    let rest = question.rest;
+    match kind {
+        Kind::Encoder => ask_encoder(question, answer),
+        Kind::Inspection => {
+            put_header(answer, postlapse::postlapse_inspect(rest));
+            Some(())
+        }
+        Kind::Decoder => ask_decoder(question, answer),
+        Kind::WaveReader => {
+            put_read(
+                answer,
+                rest,
+                postlapse::postlapse_read_wave(rest),
+                wav::wave_samples(rest),
+            )
+        }
+        Kind::Converter => {
+            records::put_printed(answer, rest, commands::convert);
+            Some(())
+        }
+        Kind::Inspector => {
+            records::put_printed(answer, rest, commands::report);
+            Some(())
+        }
+        Kind::FragmentDecoder => ask_fragment_decoder(question, answer),
+        Kind::WaveWriter => ask_wave_writer(question, answer),
+        Kind::StrictReader => put_read(
+            answer,
+            rest,
+            postlapse::postlapse_read_strict_wave(rest),
+            wav::strict_samples(rest),
+        ),
+        Kind::SampleReader => ask_sample_reader(question, answer),
     }
-    Some(())
 }
 
 fn main(rt: HostRuntime) -> io::Result<()> {
@@ -232,10 +256,13 @@ fn main(rt: HostRuntime) -> io::Result<()> {
         "decode",
         "fragment",
         "wav",
+        "strict",
+        "load",
         "write",
         "converter",
         "inspector",
         "ima",
+        "wrong",
     ];
     records::replay(&rt, &names, ask)
 }

@@ -1,16 +1,17 @@
 -- What is proved of the definitions: each claim under the sentence of 01 that it renders. The contracts of the entry points cite the
 -- same definitions. Assumes nothing.
 use mathlib.Core.Path.{◌≡◌, refl, sym}
-use mathlib.Core.List.{List}
+use mathlib.Core.List.{List, []}
 use Prim.Native.Nat.{ℕ, ◌/◌, ◌≤◌}
 use lib.Dec.{T}
 use lib.ListN.{length}
 use borrow.Author.Tests.{le-ltb}
 use Rattle.outcome.specs.Outcome.{result, refused}
 use Rattle.outcome.proofs.Laws.{clear}
-use Rattle.wav_format.specs.Wave.{riff_end, read_wave, read_strict}
+use Rattle.outcome.proofs.Tests.{refuses_means}
+use Rattle.wav_format.specs.Wave.{check_format, riff_end, read_wave, read_strict}
 use Rattle.wav_format.specs.Samples.{samples_of, samples_call}
-use Rattle.wav_format.specs.Cases.{saying, pinned}
+use Rattle.wav_format.specs.Cases.{Says, reads, refused_as, format_refused, strict, strict_refused, pinned}
 use Rattle.wav_format.specs.declared.Wave.{Wave}
 use Rattle.wav_format.proofs as proofs
 
@@ -19,10 +20,24 @@ use Rattle.wav_format.proofs as proofs
 pub refusals_pinned : T pinned
 refusals_pinned = proofs.Checks.pinned_hold
 
--- what a passed test of what a file says tells
-pub reading_tested : (channels rate start size : ℕ) (w : Wave) → T (saying channels rate start size w)
-    → (w.channels ≡ channels) × (w.rate ≡ rate) × (w.samples.start ≡ start) × (w.samples.size ≡ size)
-reading_tested = proofs.Checks.saying_means
+-- what a passed test tells: what the file says, or that very refusal, with no numbers
+pub reading_tested : (channels rate start size : ℕ) (s : List ℕ) → T (reads channels rate start size s)
+    → (w : Wave) × (read_wave s ≡ result w) × Says channels rate start size w
+reading_tested channels rate start size s = proofs.Checks.tells channels rate start size (read_wave s)
+
+pub strict_reading_tested : (channels rate start size : ℕ) (s : List ℕ) → T (strict channels rate start size s)
+    → (w : Wave) × (read_strict s ≡ result w) × Says channels rate start size w
+strict_reading_tested channels rate start size s = proofs.Checks.tells channels rate start size (read_strict s)
+
+pub refusal_tested : (n : ℕ) (s : List ℕ) → T (refused_as n s) → read_wave s ≡ refused n []
+refusal_tested n s = refuses_means n [] _
+
+pub strict_refusal_tested : (n : ℕ) (s : List ℕ) → T (strict_refused n s) → read_strict s ≡ refused n []
+strict_refusal_tested n s = refuses_means n [] _
+
+pub format_refusal_tested : (n encoding channels rate byte_rate align bits : ℕ) → T (format_refused n encoding channels rate byte_rate align bits)
+    → check_format encoding channels rate byte_rate align bits ≡ refused n []
+format_refusal_tested n encoding channels rate byte_rate align bits = refuses_means n [] _
 
 -- "After plain acceptance it refuses 40, 41, 42": what plain reading refuses, strict reading refuses in the same way
 pub strict-refuses : (s : List ℕ) (n : ℕ) (vs : List ℕ) → read_wave s ≡ refused n vs → read_strict s ≡ refused n vs

@@ -5,3 +5,4 @@ pub mod Plain
 pub mod Answers
 pub mod Checks
 pub mod Claims
+pub mod Uses

@@ -1,6 +1,6 @@
 -- Each refusal of reading a WAV file, as a test that computes: inputs that give it, the neighbours across its bound, which don't, and
 -- its place in the order: where later causes hold too it is still this one. The expectations are 01's. Assumes nothing.
-use Rattle.std.specs.Prelude.{ℕ, ◌+◌, ◌-◌, ◌*◌, ◌%◌, Bool, ◌&&◌, List, [], ◌∷◌, ◌++◌, eqb, ℤ, pos, negsuc, length, get_or, set, take, drop, replicate}
+use Rattle.std.specs.Prelude.{◌≡◌, ℕ, ◌+◌, ◌-◌, ◌*◌, ◌%◌, Bool, ◌&&◌, List, [], ◌∷◌, ◌++◌, eqb, ℤ, pos, negsuc, length, get_or, set, take, drop, replicate}
 use Rattle.outcome.specs.Outcome.{refused}
 use Rattle.outcome.specs.Tests.{gives, accepts, refuses}
 use Rattle.lists.specs.Tables.{every, every_at}
@@ -62,16 +62,20 @@ abbrev pub saying : ℕ → ℕ → ℕ → ℕ → Wave → Bool
 saying channels rate start size w =
     eqb w.channels channels && eqb w.rate rate && eqb w.samples.start start && eqb w.samples.size size
 
-abbrev reads : ℕ → ℕ → ℕ → ℕ → List ℕ → Bool
+-- what a passed one means
+abbrev pub Says : ℕ → ℕ → ℕ → ℕ → Wave → Type 0
+Says channels rate start size w = (w.channels ≡ channels) × (w.rate ≡ rate) × (w.samples.start ≡ start) × (w.samples.size ≡ size)
+
+abbrev pub reads : ℕ → ℕ → ℕ → ℕ → List ℕ → Bool
 reads channels rate start size s = gives (saying channels rate start size) (read_wave s)
 
-abbrev refused_as : ℕ → List ℕ → Bool
+abbrev pub refused_as : ℕ → List ℕ → Bool
 refused_as n s = refuses n [] (read_wave s)
 
 abbrev format : ℕ → ℕ → ℕ → ℕ → ℕ → ℕ → Bool
 format encoding channels rate byteRate align bits = accepts (check_format encoding channels rate byteRate align bits)
 
-abbrev format_refused : ℕ → ℕ → ℕ → ℕ → ℕ → ℕ → ℕ → Bool
+abbrev pub format_refused : ℕ → ℕ → ℕ → ℕ → ℕ → ℕ → ℕ → Bool
 format_refused n encoding channels rate byteRate align bits = refuses n [] (check_format encoding channels rate byteRate align bits)
 
 -- ---- accepted files: bytes as they stand; a number in all bytes of its field; either order of fmt and data; other chunks before,
@@ -229,10 +233,10 @@ each =
 
 -- ---- strict reading
 
-abbrev strict : ℕ → ℕ → ℕ → ℕ → List ℕ → Bool
+abbrev pub strict : ℕ → ℕ → ℕ → ℕ → List ℕ → Bool
 strict channels rate start size s = gives (saying channels rate start size) (read_strict s)
 
-abbrev strict_refused : ℕ → List ℕ → Bool
+abbrev pub strict_refused : ℕ → List ℕ → Bool
 strict_refused n s = refuses n [] (read_strict s)
 
 abbrev long_fmt : ℕ → List ℕ

@@ -1,33 +1,20 @@
 -- Each refusal of the writer, as a test that computes: inputs that give it, the neighbours across its bound, which don't, and its
 -- place in the order: where later causes hold too it is still this one. The expectations are 01's. Assumes nothing.
-use Rattle.std.specs.Prelude.{ℕ, ◌+◌, ◌*◌, Bool, ◌&&◌, [], ◌∷◌, ltb, negsuc}
-use Rattle.outcome.specs.Outcome.{Outcome, result, need, refuse_if, ◌⟫◌}
+use Rattle.std.specs.Prelude.{ℕ, ◌+◌, ◌*◌, Bool, ◌&&◌, [], ◌∷◌, negsuc}
+use Rattle.outcome.specs.Outcome.{Outcome, result, ◌⟫◌}
 use Rattle.outcome.specs.Tests.{gives, accepts, refuses}
 use Rattle.lists.specs.Tables.{every}
 use Rattle.lists.specs.Tests.{same_bytes}
-use Rattle.wav_format.specs.Wave.{one_or_two, frame_bytes}
-use Rattle.wav_writer.specs.Writer.{write_call}
-
--- the writer's checks from their numbers alone, for so many samples and with room for so many bytes; they are those of write_call
--- (write_by_numbers in proofs/Claims.antt)
-abbrev pub write_checks : {A : Type 0} → ℕ → ℕ → ℕ → ℕ → Outcome A → Outcome A
-write_checks channels rate count room rest =
-    let size = 2 * count in
-    need (one_or_two channels) 34 []
-    ⟫ refuse_if (ltb 4294967295 size) 35 []
-    ⟫ refuse_if (ltb 4294967295 (size + 36)) 36 []
-    ⟫ refuse_if (ltb 4294967295 (rate * frame_bytes channels)) 37 []
-    ⟫ refuse_if (ltb room (44 + size)) 13 ((44 + size) ∷ [])
-    ⟫ rest
+use Rattle.wav_writer.specs.Writer.{write_checks, write_call}
 
 -- channels, rate, count of samples and room
-abbrev checked : ℕ → ℕ → ℕ → ℕ → Outcome ℕ
-checked channels rate count room = write_checks channels rate count room (result 0)
+abbrev pub checked : ℕ → ℕ → ℕ → ℕ → Outcome ℕ
+checked channels rate count room = write_checks channels rate count room ⟫ result 0
 
-abbrev passes : ℕ → ℕ → ℕ → ℕ → Bool
+abbrev pub passes : ℕ → ℕ → ℕ → ℕ → Bool
 passes channels rate count room = accepts (checked channels rate count room)
 
-abbrev refused_as : ℕ → ℕ → ℕ → ℕ → ℕ → Bool
+abbrev pub refused_as : ℕ → ℕ → ℕ → ℕ → ℕ → Bool
 refused_as n channels rate count room = refuses n [] (checked channels rate count room)
 
 -- room for any file, and a rate that gives 37

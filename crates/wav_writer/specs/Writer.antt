@@ -25,16 +25,20 @@ sample_bytes samples = joined (λ i. stored 2 (to_twos (get_or samples i (pos 0)
 unfoldable pub wave_bytes : ℕ → ℕ → List ℤ → List ℕ
 wave_bytes channels rate samples = wave_header channels rate (2 * length samples) ++ sample_bytes samples
 
--- a writer call with room for so many bytes: 34, 35, 36, 37, then 13
-unfoldable pub write_call : ℕ → ℕ → List ℤ → ℕ → Outcome (List ℕ)
-write_call channels rate samples room =
-    let size = 2 * length samples in
+-- the checks of a call, by its numbers: channels, rate, samples in all, and room: 34, 35, 36, 37, then 13
+abbrev pub write_checks : {A : Type 0} → ℕ → ℕ → ℕ → ℕ → Outcome A → Outcome A
+write_checks channels rate count room rest =
+    let size = 2 * count in
     need (one_or_two channels) 34 []
     ⟫ refuse_if (ltb 4294967295 size) 35 []
     ⟫ refuse_if (ltb 4294967295 (size + 36)) 36 []
     ⟫ refuse_if (ltb 4294967295 (rate * frame_bytes channels)) 37 []
     ⟫ refuse_if (ltb room (44 + size)) 13 ((44 + size) ∷ [])
-    ⟫ result (wave_bytes channels rate samples)
+    ⟫ rest
+
+-- a writer call with room for so many bytes
+unfoldable pub write_call : ℕ → ℕ → List ℤ → ℕ → Outcome (List ℕ)
+write_call channels rate samples room = write_checks channels rate (length samples) room ⟫ result (wave_bytes channels rate samples)
 
 -- the promise of the writer: answer and output are those of write_call
 pub record AsWritten (channels rate : ℕ) (samples : List ℤ) (out : List ℕ) (answer : Result ℕ WaveError) (output : List ℕ) : Type 0 where
