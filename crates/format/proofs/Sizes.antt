@@ -20,12 +20,6 @@ bits_few H = omega arith
 bits_few L = omega arith
 bits_few LPlus = omega arith
 
--- what `if let Variant::H = variant { .. } else { .. }` knows in its second arm
-pub three_bits : (variant : Variant) → (variant ≡ H → ⊥) → bits variant ≡ 3
-three_bits H o = absurd (o refl)
-three_bits L o = refl
-three_bits LPlus o = refl
-
 pub payload_few : (v : Variant) → (24 ≤ payload_bytes v) × (payload_bytes v ≤ 32)
 payload_few H = (omega arith, omega arith)
 payload_few L = (omega arith, omega arith)

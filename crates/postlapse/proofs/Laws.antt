@@ -16,10 +16,7 @@ use Rattle.format.specs.declared.Error.{Error}
 use Rattle.format.specs.declared.State.{State}
 use Rattle.format.specs.declared.Variant.{Variant}
 use Rattle.format.proofs.Range.{unmoved}
-use types.Run.{OneOf, miss}
-use denote.Enum.Declared.{tag_of}
 use Rattle.wav_format.specs.Answers.{values_of}
-use Rattle.wav_format.specs.contracts.WaveError as W
 use Rattle.wav_format.specs.declared.WaveError.{WaveError}
 use Rattle.wav_format.specs.declared.WaveError.TheVariants.{NotWave, RiffEnd, ChunkHeader, ChunkEnd, FormatChunk, DataChunk, NoFormat, Encoding, Channels, ZeroRate, ByteRate, Inconsistent, NoData, PartialFrame, WriterChannels, DataSize, RiffSize, WriterByteRate, OutputTooShort, StrictFormat, StrictOrder, StrictEnd}
 use Rattle.postlapse.specs.Answers.{answer_of}
@@ -105,10 +102,3 @@ no_number_but StrictFormat k = refl
 no_number_but StrictOrder k = refl
 no_number_but StrictEnd k = refl
 no_number_but (OutputTooShort n) k = absurd (k n refl)
-
--- the same by the tags of the causes: all but 18, the output too short
-abbrev others : List ℕ
-others = 0 ∷ 1 ∷ 2 ∷ 3 ∷ 4 ∷ 5 ∷ 6 ∷ 7 ∷ 8 ∷ 9 ∷ 10 ∷ 11 ∷ 12 ∷ 13 ∷ 14 ∷ 15 ∷ 16 ∷ 17 ∷ 19 ∷ 20 ∷ 21 ∷ []
-
-pub no_number : (e : WaveError) → OneOf others (tag_of W.the_type e) → values_of e ≡ []
-no_number e k = no_number_but e (λ n same. absurd (miss others 18 tt (rw same at k)))
