@@ -40,10 +40,21 @@ convert8 =
 abbrev report38 : Bool
 report38 = refuses 38 [] (reported (replicate 65537 0)) && refuses 6 [] (reported (replicate 65536 0)) && refuses 5 [] (reported [])
 
--- the file of case 3, and a refusal's line with no numbers, one, and two
+-- a header of an old version, and a fragment of it with so many bytes of zeros for codes
+abbrev old : ℕ → ℕ → ℕ → ℕ → List ℕ
+old version variant channels samples = 83 ∷ 81 ∷ 86 ∷ 52 ∷ version ∷ variant ∷ channels ∷ 0 ∷ 68 ∷ 172 ∷ 0 ∷ 0 ∷ samples ∷ 0 ∷ 0 ∷ 0 ∷ []
+
+abbrev fragment : ℕ → ℕ → List ℕ
+fragment volume codes = volume ∷ replicate codes 0
+
+-- the file of case 3; frames and channels from 0, frame by frame, each with its own count, and - for the index in versions 1, 2, with each
+-- variant's name; and a refusal's line with no numbers, one, and two
 abbrev prints : Bool
 prints =
     same_bytes (printed (reported stream)) (letters "version 3 variant H channels 1 rate 8000 samples 1\n0 0 1 8 81\n")
+    && same_bytes (printed (reported (old 2 2 2 65 ++ fragment 10 24 ++ fragment 0 24 ++ fragment 255 24 ++ fragment 7 24)))
+    (letters "version 2 variant L+ channels 2 rate 44100 samples 65\n0 0 64 10 -\n0 1 64 0 -\n1 0 1 255 -\n1 1 1 7 -\n")
+    && same_bytes (printed (reported (old 1 1 1 64 ++ fragment 100 24))) (letters "version 1 variant L channels 1 rate 44100 samples 64\n0 0 64 100 -\n")
     && same_bytes (printed (converted [])) (letters "refused 38\n") && same_bytes (printed (converted (3 ∷ 0 ∷ []))) (letters "refused 8 3\n")
     && same_bytes (printed (reported (header 0))) (letters "refused 10 50 16\n")
 

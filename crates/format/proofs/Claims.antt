@@ -1,7 +1,7 @@
 -- What is proved of the definitions: each claim under the sentence of 01 or of the demands that it renders. The contracts of the
 -- entry points cite the same definitions, so the claims speak of running code as soon as a contract is met. Uses.antt has the claims
 -- at work, and instances. Assumes nothing.
-use mathlib.Core.Path.{◌≡◌, refl}
+use mathlib.Core.Path.{◌≡◌}
 use mathlib.Core.Bool.{Bool, true}
 use mathlib.Core.List.{List, map}
 use Prim.Native.Nat.{ℕ, ◌*◌, ◌/◌, ◌%◌, ◌^◌, ◌≤◌, ◌<◌}

@@ -17,15 +17,12 @@ use Rattle.format.specs.Decode.{zero_state, channel_sample, decoded, fragment_ca
 use Rattle.format.specs.Encode.{channel, header_written, encoded, encode_call}
 use Rattle.format.specs.Inspect.{Sound, inspected, decode_call}
 use Rattle.format.specs.Calls.{Separate}
-use Rattle.format.specs.Tests.{settings}
-use Rattle.format.specs.Compute.{computing}
 use Rattle.format.specs.Answers.{refusal}
 use Rattle.format.proofs.Agreement.{sample_ext}
 use Rattle.format.proofs.Encoder.{length-channel}
 use Rattle.format.proofs.Instance as here
 use Rattle.format.proofs.Claims as claims
 use Rattle.format.specs.declared.Variant.{Variant}
-use Rattle.format.specs.declared.Variant.TheVariants.{L}
 use Rattle.format.specs.declared.Header.{Header}
 use Rattle.format.specs.declared.Settings.{Settings}
 use Rattle.format.specs.declared.Error.{Error}

@@ -115,3 +115,82 @@ pub extern "C" fn postlapse_write_wave(
 {
     postlapse::postlapse_write_wave(channels, rate, samples, out)
 }
+
+// Each export is the call of its name: a promise changed together with its body away from the header for C would pass the proofs, and the
+// program `replay` asks the crate postlapse. The answers are 01's: case 3, case 7, and a file with a byte behind its RIFF end.
+#[cfg(test)]
+mod tests {
+    use super::*;
+
+    // The WAV file of one sample 1000, mono at 8000, and a byte that strict reading refuses with 42.
+    const WAVE: [u8; 47] = [
+        82, 73, 70, 70, 38, 0, 0, 0, 87, 65, 86, 69, 102, 109, 116, 32, 16, 0, 0, 0, 1, 0, 1, 0,
+        64, 31, 0, 0, 128, 62, 0, 0, 2, 0, 16, 0, 100, 97, 116, 97, 2, 0, 0, 0, 232, 3, 9,
+    ];
+
+    // The stream of case 3.
+    const STREAM: [u8; 50] = [
+        83, 81, 86, 52, 3, 0, 1, 0, 64, 31, 0, 0, 1, 0, 0, 0, 0x08, 0x51, 0x07, 0, 0, 0, 0, 0, 0,
+        0, 0, 0, 0, 0, 0, 0, 0, 0, 0, 0, 0, 0, 0, 0, 0, 0, 0, 0, 0, 0, 0, 0, 0, 0,
+    ];
+
+    fn said(h: HeaderAnswer) -> (usize, u8, u8, u8, u32, u32) {
+        (
+            h.refusal, h.version, h.variant, h.channels, h.rate, h.samples,
+        )
+    }
+
+    #[test]
+    fn streams(rt: HostRuntime) {
+        let mut stream = [0u8; 50];
+        let a = postlapse_encode(&[1000], 1, 8000, 0, 255, &mut stream);
+        assert_eq!(rt; (a.refusal, a.first, a.second), (0, 50, 0));
+        assert_eq!(rt; stream, STREAM);
+        let h = postlapse_inspect(&STREAM);
+        assert_eq!(rt; said(h), (0, 3, 0, 1, 8000, 1));
+        let mut pcm = [0i16; 1];
+        let h = postlapse_decode(&STREAM, &mut pcm);
+        assert_eq!(rt; said(h), (0, 3, 0, 1, 8000, 1));
+        assert_eq!(rt; pcm, [989]);
+    }
+
+    // Version 3 gives back the state that it was given; in version 2 code 7 leads from 0, 0 to 11, 8.
+    #[test]
+    fn fragments(rt: HostRuntime) {
+        let mut pcm = [0i16; 1];
+        let a = postlapse_decode_fragment(3, 0, 5, 3, &STREAM[16..], &mut pcm);
+        assert_eq!(rt; (a.refusal, a.first, a.predictor, a.index), (0, 1, 5, 3));
+        assert_eq!(rt; pcm, [989]);
+        let mut fragment = [0u8; 33];
+        fragment[0] = 255;
+        fragment[1] = 7;
+        let mut state = State {
+            predictor: 0,
+            index: 0,
+        };
+        let a = postlapse_decode_fragment_lent(2, 0, &mut state, &fragment, &mut pcm);
+        assert_eq!(rt;
+            (a.refusal, a.first, state.predictor, state.index),
+            (0, 1, 11, 8)
+        );
+        assert_eq!(rt; pcm, [11]);
+    }
+
+    #[test]
+    fn waves(rt: HostRuntime) {
+        let w = postlapse_read_wave(&WAVE);
+        assert_eq!(rt;
+            (w.refusal, w.channels, w.rate, w.start, w.size),
+            (0, 1, 8000, 44, 2)
+        );
+        assert_eq!(rt; postlapse_read_strict_wave(&WAVE).refusal, 42);
+        let mut pcm = [0i16; 1];
+        let a = postlapse_load_samples(&WAVE[44..46], &mut pcm);
+        assert_eq!(rt; (a.refusal, a.first, a.second), (0, 1, 0));
+        assert_eq!(rt; pcm, [1000]);
+        let mut file = [9u8; 47];
+        let a = postlapse_write_wave(1, 8000, &[1000], &mut file);
+        assert_eq!(rt; (a.refusal, a.first, a.second), (0, 46, 0));
+        assert_eq!(rt; file, WAVE);
+    }
+}
