@@ -16,6 +16,10 @@ struct Rules {
     sign_at_zero: bool,
     later_code: bool,
     unclamped_code: bool,
+    judge_by_distance: bool,
+    strict_half: bool,
+    last_part: i32,
+    last_code: u8,
 }
 
 const RIGHT: Rules = Rules {
@@ -26,6 +30,10 @@ const RIGHT: Rules = Rules {
     sign_at_zero: false,
     later_code: false,
     unclamped_code: false,
+    judge_by_distance: false,
+    strict_half: false,
+    last_part: 4,
+    last_code: 7,
 };
 
 struct Slip {
@@ -34,57 +42,94 @@ struct Slip {
     variants: &'static [Variant],
     /// Only lists whose right fragment has a sum above 0 count.
     with_loss: bool,
+    /// A list that shows it, where the short ones do not.
+    samples: Option<&'static [i16]>,
 }
 
-const SLIPS: [Slip; 7] = [
+const SLIPS: [Slip; 11] = [
     Slip {
         says: "(a) starts tried up to 87 only",
         rules: Rules { last_start: 87, ..RIGHT },
         variants: &VARIANTS,
         with_loss: false,
+        samples: None,
     },
     Slip {
         says: "(b) start judged by normalised values and predictors",
         rules: Rules { judge_normalised: true, ..RIGHT },
         variants: &VARIANTS,
         with_loss: false,
+        samples: None,
     },
     Slip {
         says: "(c) later start wins at the same sum",
         rules: Rules { later_start: true, ..RIGHT },
         variants: &VARIANTS,
         with_loss: true,
+        samples: None,
     },
     Slip {
         says: "(d) step taken off only where it is less than the rest",
         rules: Rules { strict_step: true, ..RIGHT },
         variants: &[Variant::H],
         with_loss: false,
+        samples: None,
     },
     Slip {
         says: "(e) sign bit set where input equals predictor",
         rules: Rules { sign_at_zero: true, ..RIGHT },
         variants: &[Variant::H],
         with_loss: false,
+        samples: None,
     },
     Slip {
         says: "(f) later of two codes that are equally near wins",
         rules: Rules { later_code: true, ..RIGHT },
         variants: &[Variant::L, Variant::LPlus],
         with_loss: false,
+        samples: None,
     },
     Slip {
         says: "(g) nearest code found before the clamp",
         rules: Rules { unclamped_code: true, ..RIGHT },
         variants: &[Variant::L, Variant::LPlus],
         with_loss: false,
+        samples: None,
+    },
+    Slip {
+        says: "(h) start judged by distances and not by their squares",
+        rules: Rules { judge_by_distance: true, ..RIGHT },
+        variants: &[Variant::H],
+        with_loss: false,
+        samples: Some(&[-2035, 1058]),
+    },
+    Slip {
+        says: "(i) half a step taken off only where it is less than the rest",
+        rules: Rules { strict_half: true, ..RIGHT },
+        variants: &[Variant::H],
+        with_loss: false,
+        samples: Some(&[741, -1652]),
+    },
+    Slip {
+        says: "(j) a fifth of a step for the quarter",
+        rules: Rules { last_part: 5, ..RIGHT },
+        variants: &[Variant::H],
+        with_loss: false,
+        samples: Some(&[-2748, -474]),
+    },
+    Slip {
+        says: "(k) code 7 left out",
+        rules: Rules { last_code: 6, ..RIGHT },
+        variants: &[Variant::L, Variant::LPlus],
+        with_loss: false,
+        samples: Some(&[-1]),
     },
 ];
 
 /// For each length of list, the greatest magnitude that is tried.
 const BOUNDS: [(usize, i32); 4] = [(1, 32768), (2, 200), (3, 20), (4, 6)];
 
-/// For each slip and variant the first list that shows it, shortest lists and small magnitudes first.
+/// For each slip and variant the list that is given or the first that shows it, shortest lists and small magnitudes first.
 pub fn list() -> String {
     let encoder = Encoder::new();
     let mut text = String::new();
@@ -97,18 +142,22 @@ pub fn list() -> String {
 }
 
 fn shown(encoder: &Encoder, slip: &Slip, variant: Variant) -> Option<String> {
-    for (length, bound) in BOUNDS {
-        for samples in (1..=bound).flat_map(|greatest| lists(length, greatest)) {
-            let (right, sum) = encoder.encode(RIGHT, variant, &samples);
-            assert_eq!(right, from_reference(variant, &samples), "{samples:?}");
-            let (wrong, _) = encoder.encode(slip.rules, variant, &samples);
-            if wrong != right && (sum > 0 || !slip.with_loss) {
-                let found = format!("# {}: {}; right: {}, sum {sum}\n", slip.says, wrong.text(), right.text());
-                return Some(found + &encode_line(variant, 255, 1, 8000, &samples));
-            }
+    let tried = |samples: &[i16]| {
+        let (right, sum) = encoder.encode(RIGHT, variant, samples);
+        assert_eq!(right, from_reference(variant, samples), "{samples:?}");
+        let (wrong, _) = encoder.encode(slip.rules, variant, samples);
+        (wrong != right && (sum > 0 || !slip.with_loss)).then(|| {
+            let found = format!("# {}: {}; right: {}, sum {sum}\n", slip.says, wrong.text(), right.text());
+            found + &encode_line(variant, 255, 1, 8000, samples)
+        })
+    };
+    match slip.samples {
+        Some(samples) => tried(samples),
+        None => {
+            let all = BOUNDS.into_iter().flat_map(|(length, bound)| (1..=bound).flat_map(move |greatest| lists(length, greatest)));
+            all.into_iter().find_map(|samples| tried(&samples))
         }
     }
-    None
 }
 
 /// All lists of a length whose greatest magnitude is the given one, those with a smaller sum of magnitudes first.
@@ -217,7 +266,7 @@ impl Encoder {
                 true => input - state.predictor,
                 false => sample as i32 - sqv4::apply_volume(state.predictor, volume as i32),
             };
-            sum += (distance as i64).pow(2);
+            sum += (distance as i64).abs().pow(if rules.judge_by_distance { 1 } else { 2 });
         }
         (codes, sum)
     }
@@ -227,8 +276,8 @@ impl Encoder {
         let mut rest = (input - state.predictor).abs();
         let negative = input < state.predictor || (input == state.predictor && rules.sign_at_zero);
         let mut code = if negative { 8 } else { 0 };
-        for (bit, part) in [(4, step), (2, step / 2), (1, step / 4)] {
-            if rest > part || (rest == part && !rules.strict_step) {
+        for (bit, part) in [(4, step), (2, step / 2), (1, step / rules.last_part)] {
+            if rest > part || (rest == part && !rules.strict_step && !(rules.strict_half && bit == 2)) {
                 code |= bit;
                 rest -= part;
             }
@@ -244,7 +293,7 @@ fn code_l(rules: Rules, variant: Variant, state: State, input: i32) -> u8 {
         false => after(variant, state, code).predictor,
     };
     let (mut best, mut least) = (0, i32::MAX);
-    for code in 0..8 {
+    for code in 0..=rules.last_code {
         let distance = (input - reached(code)).abs();
         if distance < least || (distance == least && rules.later_code) {
             (best, least) = (code, distance);
