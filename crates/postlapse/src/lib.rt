@@ -280,7 +280,7 @@ pub fn postlapse_decode_fragment_lent(
     Answer::from(played.answer)
 }
 
-// The lent form with plain parameters: a local state is lent to it, and comes back with the answer. The replays ask it at every recorded
+// The lent form with plain parameters: a local state is lent to it, and comes back with the answer. `replay` asks it at every recorded
 // fragment beside the form by value, which has the same parameters.
 pub fn decode_through_lent(
     version: u8,
