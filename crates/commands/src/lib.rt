@@ -178,8 +178,7 @@ pub fn report(input: &[u8], out: &mut [u8; ROOM]) -> usize
     print(input, out, inspect)
 }
 
-// Internal: a program. It reads no more than it takes and one byte, and writes what the command prints of that: where what the source has
-// left and what the sink holds are known, the contract says so. Of the standard streams they are not: tests/command tries those.
+// Internal: a program. It reads what it takes and one byte. Of the standard streams no contract says what is left: tests/command tries those.
 pub fn run<R: Read + Drop, W: Write, F: Fn(&[u8], &mut [u8; ROOM]) -> usize>(
     source: R,
     sink: &mut W,

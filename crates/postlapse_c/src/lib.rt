@@ -134,6 +134,7 @@ mod tests {
         0, 0, 0, 0, 0, 0, 0, 0, 0, 0, 0, 0, 0, 0, 0, 0, 0, 0, 0, 0, 0, 0, 0, 0, 0,
     ];
 
+    // What an answer with a header says.
     fn said(h: HeaderAnswer) -> (usize, u8, u8, u8, u32, u32) {
         (
             h.refusal, h.version, h.variant, h.channels, h.rate, h.samples,

@@ -8,10 +8,10 @@ use lib.ListN.{length}
 use borrow.Author.Tests.{le-ltb}
 use Rattle.outcome.specs.Outcome.{result, refused}
 use Rattle.outcome.proofs.Laws.{clear}
-use Rattle.outcome.proofs.Tests.{refuses_means}
+use Rattle.outcome.proofs.Tests.{accepts_means, refuses_means}
 use Rattle.wav_format.specs.Wave.{check_format, riff_end, read_wave, read_strict}
 use Rattle.wav_format.specs.Samples.{samples_of, samples_call}
-use Rattle.wav_format.specs.Cases.{Says, reads, refused_as, format_refused, strict, strict_refused, pinned}
+use Rattle.wav_format.specs.Cases.{Says, reads, refused_as, format, format_refused, strict, strict_refused, pinned}
 use Rattle.wav_format.specs.declared.Wave.{Wave}
 use Rattle.wav_format.proofs as proofs
 
@@ -34,6 +34,10 @@ refusal_tested n s = refuses_means n [] _
 
 pub strict_refusal_tested : (n : ℕ) (s : List ℕ) → T (strict_refused n s) → read_strict s ≡ refused n []
 strict_refusal_tested n s = refuses_means n [] _
+
+pub format_tested : (encoding channels rate byte_rate align bits : ℕ) → T (format encoding channels rate byte_rate align bits)
+    → (frame : ℕ) × (check_format encoding channels rate byte_rate align bits ≡ result frame)
+format_tested encoding channels rate byte_rate align bits = accepts_means _
 
 pub format_refusal_tested : (n encoding channels rate byte_rate align bits : ℕ) → T (format_refused n encoding channels rate byte_rate align bits)
     → check_format encoding channels rate byte_rate align bits ≡ refused n []

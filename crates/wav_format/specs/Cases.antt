@@ -72,7 +72,7 @@ reads channels rate start size s = gives (saying channels rate start size) (read
 abbrev pub refused_as : ℕ → List ℕ → Bool
 refused_as n s = refuses n [] (read_wave s)
 
-abbrev format : ℕ → ℕ → ℕ → ℕ → ℕ → ℕ → Bool
+abbrev pub format : ℕ → ℕ → ℕ → ℕ → ℕ → ℕ → Bool
 format encoding channels rate byteRate align bits = accepts (check_format encoding channels rate byteRate align bits)
 
 abbrev pub format_refused : ℕ → ℕ → ℕ → ℕ → ℕ → ℕ → ℕ → Bool
