@@ -11,9 +11,9 @@ const HEADER: &str = "\
 use mathlib.Core.List.{[], ◌∷◌}
 use lib.Dec.{T}
 use lib.IntN.{pos, negsuc}
-use Rattle.format.specs.Compute.{computing}
-use Rattle.format.specs.Tests.{encodes, encode_refused, inspects, inspect_refused, decodes, decode_refused, plays, steps}
-use Rattle.format.specs.declared.Variant.TheVariants.{H, L, LPlus}
+use Rattle.sqv4_format.specs.Compute.{computing}
+use Rattle.sqv4_format.specs.Tests.{encodes, encode_refused, inspects, inspect_refused, decodes, decode_refused, plays, steps}
+use Rattle.sqv4_format.specs.declared.Variant.TheVariants.{H, L, LPlus}
 ";
 
 const WIDTH: usize = 118;

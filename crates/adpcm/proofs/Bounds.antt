@@ -15,12 +15,12 @@ use Rattle.lists.specs.Tables.{every, inside}
 use Rattle.lists.proofs.Tables.{at, inside_pos, inside_low, inside_high, inside-abs}
 use Rattle.signed.specs.Signed.{with_sign}
 use Rattle.signed.proofs.Laws.{nat_abs-with_sign, product_le, Read, small_read, up32, read16}
-use Rattle.format.specs.Tables.{steps, h_index_adjust, l_index_adjust, l_levels, l_plus_levels, legacy_l_plus_levels}
-use Rattle.format.specs.Layout.{bits}
-use Rattle.format.specs.Step.{step_at, bit_set, h_size, l_size, levels, level_of, difference, adjustment}
-use Rattle.format.specs.declared.Variant.{Variant}
-use Rattle.format.specs.declared.Variant.TheVariants.{H, L, LPlus}
-use Rattle.format.proofs.Sizes.{part_le}
+use Rattle.sqv4_format.specs.Tables.{steps, h_index_adjust, l_index_adjust, l_levels, l_plus_levels, legacy_l_plus_levels}
+use Rattle.sqv4_format.specs.Layout.{bits}
+use Rattle.sqv4_format.specs.Step.{step_at, bit_set, h_size, l_size, levels, level_of, difference, adjustment}
+use Rattle.sqv4_format.specs.declared.Variant.{Variant}
+use Rattle.sqv4_format.specs.declared.Variant.TheVariants.{H, L, LPlus}
+use Rattle.sqv4_format.proofs.Sizes.{part_le}
 
 -- ---- the steps, in 7..32767
 

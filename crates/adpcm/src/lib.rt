@@ -2,11 +2,11 @@
 #![tactic(auto)]
 
 ghost use Rattle.std.specs.Prelude.{◌≡◌, ◌<◌, ◌≤◌, ◌^◌, nat_abs};
-ghost use Rattle.format.specs.Tables as tables;
-ghost use Rattle.format.specs.Layout.{bits};
-ghost use Rattle.format.specs.Step.{step_at, part, h_size, l_size, levels, level_of, size_of, sign_bit, difference, adjustment, stepped};
+ghost use Rattle.sqv4_format.specs.Tables as tables;
+ghost use Rattle.sqv4_format.specs.Layout.{bits};
+ghost use Rattle.sqv4_format.specs.Step.{step_at, part, h_size, l_size, levels, level_of, size_of, sign_bit, difference, adjustment, stepped};
 
-use format::{Coding, Reached, State, StepIndex, Variant};
+use sqv4_format::{Coding, Reached, State, StepIndex, Variant};
 
 // The 89 steps.
 pub static STEPS: [i32; 89] = [
@@ -34,7 +34,7 @@ pub static L_LEVELS: [i32; 4] = [1, 3, 5, 7];
 static H_LEVELS: [i32; 4] = [0; 4];
 
 // The table of the steps.
-#[tactic(auto, unfolding(format::specs::Tables::steps))]
+#[tactic(auto, unfolding(sqv4_format::specs::Tables::steps))]
 pub fn steps() -> &'static [i32; 89]
     ensures { result.now ≡ tables.steps }
 {
@@ -51,7 +51,7 @@ pub fn step_size(index: StepIndex) -> u32
 
 // The levels of a variant. What depends on the variant is picked by a match, here and below: the ways of H and of L and L+ share no step,
 // and the variant is known only at run time; a closure or a trait object would be called at each sample and be no plainer.
-#[tactic(auto, unfolding(format::specs::Tables::l_levels, format::specs::Tables::l_plus_levels, format::specs::Tables::legacy_l_plus_levels))]
+#[tactic(auto, unfolding(sqv4_format::specs::Tables::l_levels, sqv4_format::specs::Tables::l_plus_levels, sqv4_format::specs::Tables::legacy_l_plus_levels))]
 fn levels(coding: Coding) -> &'static [i32; 4]
     ensures { result.now ≡ levels coding.version coding.variant }
 {
@@ -83,7 +83,7 @@ pub fn part_of(on: bool, x: u32) -> u32
 }
 
 // The size of an H code's difference, at an index.
-#[tactic(auto, unfolding(format::specs::Step::h_size))]
+#[tactic(auto, unfolding(sqv4_format::specs::Step::h_size))]
 fn h_size(index: StepIndex, code: u8) -> u32
     ensures { (result ≡ h_size (step_at index.value) code) × (result ≤ 65535) }
 {
@@ -95,7 +95,7 @@ fn h_size(index: StepIndex, code: u8) -> u32
 }
 
 // Internal: the size of an L or L+ code's difference.
-#[tactic(auto, using(signed::proofs::Laws::product_le), unfolding(format::specs::Step::l_size))]
+#[tactic(auto, using(signed::proofs::Laws::product_le), unfolding(sqv4_format::specs::Step::l_size))]
 pub fn l_size(level: u32, step: u32) -> u32
     requires { (level ≤ 14) × (step ≤ 32767) }
     ensures { (result ≡ l_size level step) × (result ≤ 65535) }

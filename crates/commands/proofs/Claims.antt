@@ -15,9 +15,9 @@ use Rattle.outcome.specs.Outcome.{result, refused, Refusing}
 use Rattle.outcome.proofs.Flags.{either_elim}
 use Rattle.outcome.proofs.Laws.{clear, pass, refusing_then}
 use Rattle.outcome.proofs.Tests.{refuses_means}
-use Rattle.format.specs.Layout.{channels_fit, stream_length}
-use Rattle.format.specs.Encode.{header_written, encoded, too_many, encode_call}
-use Rattle.format.specs.declared.Settings.{Settings}
+use Rattle.sqv4_format.specs.Layout.{channels_fit, stream_length}
+use Rattle.sqv4_format.specs.Encode.{header_written, encoded, too_many, encode_call}
+use Rattle.sqv4_format.specs.declared.Settings.{Settings}
 use Rattle.wav_format.specs.Wave.{frame_bytes, one_or_two, read_wave, part_of}
 use Rattle.wav_format.specs.Samples.{samples_of}
 use Rattle.wav_format.specs.declared.Wave.{Wave}

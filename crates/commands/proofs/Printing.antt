@@ -13,13 +13,13 @@ use borrow.Author.Tests.{le-ltb, eqb-true}
 use Rattle.outcome.specs.Outcome.{Outcome, result, refused, refuse_if, need, on_result, output_after}
 use Rattle.outcome.proofs.Flags.{either_elim}
 use Rattle.outcome.proofs.Laws.{checks, clear, then_result, then_refused, on_result_lem, on_refused}
-use Rattle.format.specs.Layout.{variant_of, anew, version_for, channels_fit, payload_bytes, frames, size_in, stream_length}
-use Rattle.format.specs.Encode.{header_written, encode_call}
-use Rattle.format.specs.Inspect.{inspected}
-use Rattle.format.specs.declared.Header.{Header}
-use Rattle.format.specs.declared.Settings.{Settings}
-use Rattle.format.specs.declared.Variant.{Variant}
-use Rattle.format.proofs.Sizes.{payload_few}
+use Rattle.sqv4_format.specs.Layout.{variant_of, anew, version_for, channels_fit, payload_bytes, frames, size_in, stream_length}
+use Rattle.sqv4_format.specs.Encode.{header_written, encode_call}
+use Rattle.sqv4_format.specs.Inspect.{inspected}
+use Rattle.sqv4_format.specs.declared.Header.{Header}
+use Rattle.sqv4_format.specs.declared.Settings.{Settings}
+use Rattle.sqv4_format.specs.declared.Variant.{Variant}
+use Rattle.sqv4_format.proofs.Sizes.{payload_few}
 use Rattle.wav_format.specs.Wave.{read_wave, part_of}
 use Rattle.wav_format.specs.Samples.{samples_of}
 use Rattle.wav_format.specs.Answers.{AsSamples}
@@ -38,11 +38,11 @@ use Rattle.std.specs.declared.result.Result.{Result}
 use Rattle.std.specs.declared.result.Result.TheVariants.{Ok, Err}
 use Rattle.std.specs.Result.{IsErrAnd}
 use Rattle.std.proofs.lemmas.Result.{err_from_is_err_and}
-use Rattle.format.specs.Answers.{AsEncoded}
-use Rattle.format.specs.declared.Error.{Error}
+use Rattle.sqv4_format.specs.Answers.{AsEncoded}
+use Rattle.sqv4_format.specs.declared.Error.{Error}
 use Rattle.digits.proofs.Laws.{tail_all}
 use Rattle.commands.specs.Commands.{printed, encode_whole, encode_wave, converted, report, reported}
-use Rattle.lines.specs.Lines.{refusal_line}
+use Rattle.report_lines.specs.Lines.{refusal_line}
 
 -- ---- what a program gives
 

@@ -7,7 +7,7 @@ use native.Mathlib.Decide.{dec_lt}
 use lib.ListN.{length, take, drop, get_or, length-drop}
 use Rattle.outcome.specs.Outcome.{Refusing}
 use Rattle.outcome.proofs.Laws.{refusing_if, refusing_then, refusing_so}
-use Rattle.format.specs.Layout.{variant_of}
+use Rattle.sqv4_format.specs.Layout.{variant_of}
 use Rattle.wav_format.proofs.Plain.{PlainRefusal}
 use Rattle.commands.specs.Commands.{converted, reported}
 use Rattle.commands.specs.declared.TheConstants.{READ}

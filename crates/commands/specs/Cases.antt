@@ -4,7 +4,7 @@ use Rattle.std.specs.Prelude.{ℕ, Bool, ◌&&◌, List, [], ◌∷◌, ◌++◌
 use Rattle.outcome.specs.Tests.{gives, refuses}
 use Rattle.lists.specs.Tables.{every}
 use Rattle.lists.specs.Tests.{same_bytes}
-use Rattle.format.specs.Cases.{zeros, headed, changed, stereo}
+use Rattle.sqv4_format.specs.Cases.{zeros, headed, changed, stereo}
 use Rattle.text.specs.Text.{letters}
 use Rattle.commands.specs.Commands.{printed, converted, reported}
 

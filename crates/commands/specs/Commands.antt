@@ -2,14 +2,14 @@
 use Rattle.std.specs.Prelude.{ℕ, ◌*◌, List, [], ◌++◌, ltb, ℤ, length, get_or, drop}
 use Rattle.outcome.specs.Outcome.{Outcome, result, refused, refuse_if, ◌⟫◌, and_then, on_result}
 use Rattle.lists.specs.Lists.{joined}
-use Rattle.format.specs.Layout.{variant_of, frames, stream_length}
-use Rattle.format.specs.Encode.{header_written, encode_call}
-use Rattle.format.specs.Inspect.{inspected}
-use Rattle.format.specs.declared.Header.{Header}
-use Rattle.format.specs.declared.Settings.{Settings}
+use Rattle.sqv4_format.specs.Layout.{variant_of, frames, stream_length}
+use Rattle.sqv4_format.specs.Encode.{header_written, encode_call}
+use Rattle.sqv4_format.specs.Inspect.{inspected}
+use Rattle.sqv4_format.specs.declared.Header.{Header}
+use Rattle.sqv4_format.specs.declared.Settings.{Settings}
 use Rattle.wav_format.specs.Wave.{read_wave, part_of}
 use Rattle.wav_format.specs.Samples.{samples_of}
-use Rattle.lines.specs.Lines.{refusal_line, header_line, fragment_line}
+use Rattle.report_lines.specs.Lines.{refusal_line, header_line, fragment_line}
 
 -- ---- what either prints
 

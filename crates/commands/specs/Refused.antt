@@ -2,7 +2,7 @@
 use Rattle.std.specs.Prelude.{◌≡◌, ℕ, List, [], length}
 use Rattle.std.specs.declared.result.Result.{Result}
 use Rattle.outcome.specs.Outcome.{Outcome, outcome_of, on_result, output_after}
-use Rattle.format.specs.Answers as codec
+use Rattle.sqv4_format.specs.Answers as codec
 use Rattle.wav_format.specs.Answers as waves
 use Rattle.commands.specs.declared.Refused.{Refused}
 use Rattle.commands.specs.declared.Refused.TheVariants.{Size, Codec, Wave}

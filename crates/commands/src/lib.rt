@@ -6,15 +6,15 @@ ghost use Rattle.std.specs.Io.KnownBytes.{Appends};
 ghost use Rattle.outcome.specs.Outcome.{Outcome, refused};
 ghost use Rattle.io.specs.Counts.{IsPrefixLen};
 ghost use Rattle.text.specs.Text.{Put};
-ghost use Rattle.lines.specs.Lines.{refusal_line};
+ghost use Rattle.report_lines.specs.Lines.{refusal_line};
 ghost use Rattle.commands.specs.Refused as refusals;
 ghost use Rattle.commands.specs.Refused.{Gives};
 ghost use Rattle.commands.specs.Commands.{printed, converted, report, reported};
 
 use arrayvec::ArrayVec;
-use format::{Error, Settings, Variant};
 use layout::Stream;
 use outcome::{Refusal, Values};
+use sqv4_format::{Error, Settings, Variant};
 use std::io;
 use std::io::{Read, Write};
 use text::Printer;
@@ -87,7 +87,7 @@ fn put_refusal(refusal: Refused, out: &mut [u8; ROOM]) -> usize
     ensures { Put out.old 0 (refusal_line (refusals.number_of refusal) (refusals.values_of refusal)) out.new result }
 {
     let mut page = Printer::new(out);
-    lines::refusal_line(&mut page, refusal);
+    report_lines::refusal_line(&mut page, refusal);
     page.count()
 }
 
@@ -98,9 +98,9 @@ fn put_report(stream: &Stream, out: &mut [u8; ROOM]) -> usize
     ensures { Put out.old 0 (report stream.now.file.now stream.now.header) out.new result }
 {
     let mut page = Printer::new(out);
-    lines::header_line(&mut page, stream.header);
+    report_lines::header_line(&mut page, stream.header);
     for p in 0..stream.fragments() {
-        lines::fragment_line(&mut page, &stream.place(p));
+        report_lines::fragment_line(&mut page, &stream.place(p));
     }
     page.count()
 }

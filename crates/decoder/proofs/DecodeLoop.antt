@@ -12,12 +12,12 @@ use lib.IntN.{ℤ, pos}
 use lib.ListN.{length, get_or, drop, take, set, length-set}
 use lib.Seq.{get_or-set_same, get_or-set_other}
 use Rattle.lists.proofs.ByIndex.{tabulate_ext}
-use Rattle.format.specs.Layout.{whole_frame, frames, count, fragment_at_place, fragment_at}
-use Rattle.format.specs.Decode.{zero_state, decoded_fragment, state_before, frame_decoded, channel_sample, decoded}
-use Rattle.format.proofs.Sizes.{frame_pos}
-use Rattle.format.specs.declared.State.{State}
-use Rattle.format.specs.declared.Header.{Header}
-use Rattle.format.specs.declared.Reached.{Reached}
+use Rattle.sqv4_format.specs.Layout.{whole_frame, frames, count, fragment_at_place, fragment_at}
+use Rattle.sqv4_format.specs.Decode.{zero_state, decoded_fragment, state_before, frame_decoded, channel_sample, decoded}
+use Rattle.sqv4_format.proofs.Sizes.{frame_pos}
+use Rattle.sqv4_format.specs.declared.State.{State}
+use Rattle.sqv4_format.specs.declared.Header.{Header}
+use Rattle.sqv4_format.specs.declared.Reached.{Reached}
 use Rattle.decoder.specs.Loops.{put_at, out_after, states_after, place_decoded, start_states, loop_states, loop_samples, loop_out, Decoding}
 use Rattle.decoder.proofs.Interleave.{out_whole, spread-take}
 use Rattle.decoder.proofs.Turns.{chain, turn_state_lem, length_states}

@@ -8,17 +8,17 @@ use lib.ListN.{length, drop}
 use borrow.Author.Tests.{lt-ltb, le-ltb}
 use Rattle.outcome.specs.Outcome.{result, on_result, output_after}
 use Rattle.outcome.proofs.Laws.{met, clear, then_result, then_refused, on_result_lem, output_result}
-use Rattle.format.specs.Layout.{frames}
-use Rattle.format.specs.Decode.{decoded}
-use Rattle.format.specs.Inspect.{Sound, inspected, decode_call}
-use Rattle.format.specs.Answers.{number_of, values_of, refusal, AsDecoded}
-use Rattle.format.proofs.Agreement.{length-decoded}
-use Rattle.format.specs.declared.Header.{Header}
-use Rattle.format.specs.declared.Error.{Error}
+use Rattle.sqv4_format.specs.Layout.{frames}
+use Rattle.sqv4_format.specs.Decode.{decoded}
+use Rattle.sqv4_format.specs.Inspect.{Sound, inspected, decode_call}
+use Rattle.sqv4_format.specs.Answers.{number_of, values_of, refusal, AsDecoded}
+use Rattle.sqv4_format.proofs.Agreement.{length-decoded}
+use Rattle.sqv4_format.specs.declared.Header.{Header}
+use Rattle.sqv4_format.specs.declared.Error.{Error}
 use Rattle.std.specs.declared.result.Result.TheVariants.{Ok, Err}
 use Rattle.decoder.specs.Loops.{start_states, loop_out}
 use Rattle.decoder.proofs.DecodeLoop.{loop_decodes, fresh}
-use Rattle.format.specs.declared.Error.TheVariants as E
+use Rattle.sqv4_format.specs.declared.Error.TheVariants as E
 
 module _ (d : List ℕ) (out : List ℤ) where
   pub as_refused : (e : Error) → refusal e ≡ decode_call d (length out) → AsDecoded d out (Err e) out

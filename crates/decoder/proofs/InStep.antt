@@ -10,11 +10,11 @@ use lib.IntN.{ℤ}
 use lib.ListN.{get_or, set, take}
 use lib.Seq.{get_or-set_other, take-take}
 use Rattle.lists.proofs.ByIndex.{take_tabulate}
-use Rattle.format.specs.Layout.{anew, whole_frame, count, fragment_at_place}
-use Rattle.format.specs.Decode.{zero_state, decoded_fragment}
-use Rattle.format.specs.declared.State.{State}
-use Rattle.format.specs.declared.Header.{Header}
-use Rattle.format.proofs.Range.{returned_anew}
+use Rattle.sqv4_format.specs.Layout.{anew, whole_frame, count, fragment_at_place}
+use Rattle.sqv4_format.specs.Decode.{zero_state, decoded_fragment}
+use Rattle.sqv4_format.specs.declared.State.{State}
+use Rattle.sqv4_format.specs.declared.Header.{Header}
+use Rattle.sqv4_format.proofs.Range.{returned_anew}
 use Rattle.decoder.specs.Loops.{states_after, place_decoded, InStep, start_states, loop_states}
 
 -- an element is replaced by itself

@@ -6,11 +6,11 @@ use mathlib.Core.Path.{◌≡◌, sym, ap, ◌∙◌}
 use mathlib.Core.List.{List}
 use lib.IntN.{ℤ}
 use lib.ListN.{length, get_or, set}
-use Rattle.format.specs.Layout.{count, fragment_at_place}
-use Rattle.format.specs.Decode.{zero_state}
-use Rattle.format.specs.declared.Header.{Header}
-use Rattle.format.specs.declared.Reached.{Reached}
-use Rattle.player.specs.Play.{Played}
+use Rattle.sqv4_format.specs.Layout.{count, fragment_at_place}
+use Rattle.sqv4_format.specs.Decode.{zero_state}
+use Rattle.sqv4_format.specs.declared.Header.{Header}
+use Rattle.sqv4_format.specs.declared.Reached.{Reached}
+use Rattle.decoder_fragment.specs.Play.{Played}
 use Rattle.decoder.specs.Loops.{put_at, place_decoded, InStep, start_states, loop_states, Decoding}
 use Rattle.decoder.proofs.InStep.{finds, lane_samples, lane_state}
 use Rattle.decoder.proofs.DecodeLoop.{decoding_more}

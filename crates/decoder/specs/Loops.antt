@@ -1,11 +1,11 @@
 -- What the loops over a whole stream have done after so many turns, said by their own stores. That this is what 01 defines is shown
 -- in proofs/. Assumes nothing.
 use Rattle.std.specs.Prelude.{ℕ, zero, suc, ◌+◌, ◌*◌, ◌-◌, ◌/◌, ◌%◌, ◌<◌, min, ◌≡◌, true, ◌⊎◌, List, [], ◌∷◌, ℤ, pos, length, get_or, set}
-use Rattle.format.specs.Layout.{anew, whole_frame, count, fragment_at_place}
-use Rattle.format.specs.Decode.{zero_state, DecodedFragment, decoded_fragment}
-use Rattle.format.specs.declared.State.{State}
-use Rattle.format.specs.declared.Reached.{Reached}
-use Rattle.format.specs.declared.Header.{Header}
+use Rattle.sqv4_format.specs.Layout.{anew, whole_frame, count, fragment_at_place}
+use Rattle.sqv4_format.specs.Decode.{zero_state, DecodedFragment, decoded_fragment}
+use Rattle.sqv4_format.specs.declared.State.{State}
+use Rattle.sqv4_format.specs.declared.Reached.{Reached}
+use Rattle.sqv4_format.specs.declared.Header.{Header}
 
 -- an output after n samples of a fragment: sample w of xs goes to place (first + w) × c + ch
 unfoldable pub spread : {A : Type 0} → A → List A → List A → ℕ → ℕ → ℕ → ℕ → List A

@@ -10,11 +10,11 @@ use lib.Seq.{take_at, drop_at, drop-drop, length-take-le}
 use Rattle.lists.specs.Lists.{tabulate, joined}
 use Rattle.digits.proofs.Laws.{part_put}
 use Rattle.lists.proofs.ByIndex.{tabulate_part, length-joined}
-use Rattle.format.specs.Layout.{encoder_version, fragment_size, size_in, rounded_up, frames, count}
-use Rattle.format.specs.Encode.{encoded_fragment, channel, frame_of, fragment_for, header_written}
-use Rattle.format.proofs.Encoder.{sized}
-use Rattle.format.specs.declared.Header.{Header}
-use Rattle.format.specs.declared.Settings.{Settings}
+use Rattle.sqv4_format.specs.Layout.{encoder_version, fragment_size, size_in, rounded_up, frames, count}
+use Rattle.sqv4_format.specs.Encode.{encoded_fragment, channel, frame_of, fragment_for, header_written}
+use Rattle.sqv4_format.proofs.Encoder.{sized}
+use Rattle.sqv4_format.specs.declared.Header.{Header}
+use Rattle.sqv4_format.specs.declared.Settings.{Settings}
 use Rattle.encoder.specs.Loops.{put_after}
 
 -- before the first fragment

@@ -12,16 +12,16 @@ use lib.Seq.{take_at, drop_at, drop-drop}
 use Rattle.std.specs.declared.result.Result.TheVariants.{Ok, Err}
 use Rattle.outcome.specs.Outcome.{Outcome, result, refuse_if, on_result, output_after}
 use Rattle.outcome.proofs.Laws.{met, clear, pass, on_result_lem, output_result}
-use Rattle.format.specs.Layout.{encoder_version, channels_fit, fragment_size, header_bytes, frames, stream_length}
-use Rattle.format.specs.Encode.{header_written, fragment_for, encoded, too_many, encode_call}
-use Rattle.format.specs.Answers.{number_of, values_of, refusal, AsEncoded}
-use Rattle.format.proofs.Sizes.{length-header}
-use Rattle.format.proofs.Encoder.{length_encoded}
+use Rattle.sqv4_format.specs.Layout.{encoder_version, channels_fit, fragment_size, header_bytes, frames, stream_length}
+use Rattle.sqv4_format.specs.Encode.{header_written, fragment_for, encoded, too_many, encode_call}
+use Rattle.sqv4_format.specs.Answers.{number_of, values_of, refusal, AsEncoded}
+use Rattle.sqv4_format.proofs.Sizes.{length-header}
+use Rattle.sqv4_format.proofs.Encoder.{length_encoded}
 use Rattle.encoder.specs.Loops.{put_after}
-use Rattle.format.specs.declared.Header.{Header}
-use Rattle.format.specs.declared.Settings.{Settings}
-use Rattle.format.specs.declared.Error.{Error}
-use Rattle.format.specs.declared.Error.TheVariants as Errors
+use Rattle.sqv4_format.specs.declared.Header.{Header}
+use Rattle.sqv4_format.specs.declared.Settings.{Settings}
+use Rattle.sqv4_format.specs.declared.Error.{Error}
+use Rattle.sqv4_format.specs.declared.Error.TheVariants as Errors
 
 module _ (k : Settings) (pcm : List ℤ) (channels rate : ℕ) (out : List ℕ) where
   pub as_refused : (e : Error) → refusal e ≡ encode_call k pcm channels rate (length out) → AsEncoded k pcm channels rate out (Err e) out

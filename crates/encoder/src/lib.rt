@@ -3,13 +3,13 @@
 
 ghost use Rattle.std.specs.Prelude.{◌≡◌, ◌++◌, ◌+◌, ◌-◌, ◌*◌, ◌/◌, ◌<◌, ◌≤◌, pos, length, take, drop, get_or};
 ghost use Rattle.lists.specs.Lists.{tabulate};
-ghost use Rattle.format.specs.Layout.{fragment_size, header_bytes, frames};
-ghost use Rattle.format.specs.Encode.{fragment_for, header_written};
-ghost use Rattle.format.specs.Answers.{AsEncoded};
+ghost use Rattle.sqv4_format.specs.Layout.{fragment_size, header_bytes, frames};
+ghost use Rattle.sqv4_format.specs.Encode.{fragment_for, header_written};
+ghost use Rattle.sqv4_format.specs.Answers.{AsEncoded};
 ghost use Rattle.encoder.specs.Loops.{put_after};
 
-use advance::Coder;
-use format::{Error, Header, Settings, Variant};
+use encoder_step::Coder;
+use sqv4_format::{Error, Header, Settings, Variant};
 
 // The 16 bytes of a header, by the definition's name.
 fn header_bytes(h: Header) -> [u8; 16]
@@ -47,7 +47,7 @@ fn put_header(out: &mut [u8], h: Header)
 }
 
 // Internal: n samples of one channel, from sample `first` of it on, at the front of 63 places; sample w lies at
-// (first + w) * channels + channel. An array, as in `trial`: the caller has n.
+// (first + w) * channels + channel. An array, as in `encoder_fragment`: the caller has n.
 fn gather(pcm: &[i16], first: usize, channels: usize, channel: usize, n: usize) -> [i16; 63]
     requires { (n ≤ 63) × (channel < channels) × ((first + n) * channels ≤ length pcm.now) }
     ensures { take n result ≡ tabulate (λ w. get_or pcm.now ((first + w) * channels + channel) (pos 0)) n }
@@ -77,7 +77,7 @@ fn put_fragments(coder: &Coder, pcm: &[i16], h: Header, out: &mut [u8])
         let s = gather(pcm, first, channels, c, n);
         let at = layout::HEADER_SIZE + p * size;
         let end = at + size;
-        trial::encode_fragment(coder, &s[..n], &mut out[at..end]);
+        encoder_fragment::encode_fragment(coder, &s[..n], &mut out[at..end]);
     }
 }
 
@@ -93,7 +93,7 @@ pub fn encode(
 ) -> Result<usize, Error>
     ensures { AsEncoded settings pcm.now channels rate out.old result out.new }
 {
-    if !layout::channels_fit(format::VERSION, channels) {
+    if !layout::channels_fit(sqv4_format::VERSION, channels) {
         return Err(Error::InvalidChannels(channels));
     }
     if rate == 0 {
@@ -107,7 +107,7 @@ pub fn encode(
         return Err(Error::TooManySamples);
     };
     let h = Header {
-        version: format::VERSION,
+        version: sqv4_format::VERSION,
         variant: settings.variant,
         channels,
         rate,

@@ -1,11 +1,11 @@
 -- A call of the fragment decoder, as it goes well and as it is refused. Assumes nothing.
 use Rattle.std.specs.Prelude.{◌≡◌, ℕ, List, ℤ, length}
 use Rattle.outcome.specs.Outcome.{result}
-use Rattle.format.specs.Decode.{decoded_fragment, fragment_call}
-use Rattle.format.specs.Answers.{refusal}
-use Rattle.format.specs.declared.Variant.{Variant}
-use Rattle.format.specs.declared.State.{State}
-use Rattle.format.specs.declared.Error.{Error}
+use Rattle.sqv4_format.specs.Decode.{decoded_fragment, fragment_call}
+use Rattle.sqv4_format.specs.Answers.{refusal}
+use Rattle.sqv4_format.specs.declared.Variant.{Variant}
+use Rattle.sqv4_format.specs.declared.State.{State}
+use Rattle.sqv4_format.specs.declared.Error.{Error}
 
 -- the output holds the fragment's samples, and the state is the one after them
 pub record Filled (version : ℕ) (variant : Variant) (s : State) (fragment : List ℕ) (out new : List ℤ) (next : State) : Type 0 where

@@ -2,15 +2,15 @@
 #![tactic(auto)]
 
 ghost use Rattle.std.specs.Prelude.{◌≡◌, true, false, length, MatchResult};
-ghost use Rattle.format.specs.Layout.{anew};
-ghost use Rattle.format.specs.Decode.{fragment_fits, state_fits};
-ghost use Rattle.format.specs.Answers.{AsCalled};
+ghost use Rattle.sqv4_format.specs.Layout.{anew};
+ghost use Rattle.sqv4_format.specs.Decode.{fragment_fits, state_fits};
+ghost use Rattle.sqv4_format.specs.Answers.{AsCalled};
 ghost use Rattle.fragment.specs.Tried.{Filled, Refused};
 
-use format::{Coded, Coding, Error, Reached, State, Variant};
+use sqv4_format::{Coded, Coding, Error, Reached, State, Variant};
 
 // Whether the fragment has its size, and an output of `n` samples is not too long for it.
-#[tactic(auto, using(outcome::proofs::Laws::checks), unfolding(format::specs::Decode::fragment_fits))]
+#[tactic(auto, using(outcome::proofs::Laws::checks), unfolding(sqv4_format::specs::Decode::fragment_fits))]
 fn fragment_fits(coding: Coding, fragment: &[u8], n: usize) -> bool
     ensures { result ≡ fragment_fits coding.version coding.variant fragment.now n }
 {
@@ -18,8 +18,8 @@ fn fragment_fits(coding: Coding, fragment: &[u8], n: usize) -> bool
 }
 
 // The state to decode from, if it is one of a decoding; a fragment that starts anew takes any, and the zero state stands for it. No
-// Option: such a fragment does not use the state, and `fragment_core` takes one in every version, so the choice would only move there.
-#[tactic(auto, unfolding(format::specs::Decode::state_fits))]
+// Option: such a fragment does not use the state, and `fragment_plain` takes one in every version, so the choice would only move there.
+#[tactic(auto, unfolding(sqv4_format::specs::Decode::state_fits))]
 fn usable(coding: Coding, state: State) -> Result<Reached, Error>
     ensures { MatchResult result (λ reached. (state_fits coding.version state ≡ true) × (anew coding.version ≡ false → reached.state ≡ state))
         (λ error. (error ≡ Error.InvalidState) × (state_fits coding.version state ≡ false)) }
@@ -31,20 +31,20 @@ fn usable(coding: Coding, state: State) -> Result<Reached, Error>
 }
 
 // The state after a fragment, whose samples fill the output; an error leaves the output as it was.
-#[tactic(auto, using(outcome::proofs::Laws::checks, format::proofs::Range::fits_size, format::proofs::Sizes::payload_few, format::proofs::Range::returned_anew, fragment_core::proofs::Fragments::samples_anew), unfolding(format::specs::Decode::fragment_call, format::specs::Answers::number_of, format::specs::Answers::values_of))]
+#[tactic(auto, using(outcome::proofs::Laws::checks, sqv4_format::proofs::Range::fits_size, sqv4_format::proofs::Sizes::payload_few, sqv4_format::proofs::Range::returned_anew, fragment_plain::proofs::Fragments::samples_anew), unfolding(sqv4_format::specs::Decode::fragment_call, sqv4_format::specs::Answers::number_of, sqv4_format::specs::Answers::values_of))]
 fn decode(coding: Coding, state: State, fragment: &[u8], out: &mut [i16]) -> Result<State, Error>
     ensures { MatchResult result (Filled coding.version coding.variant state fragment.now out.old out.new)
         (Refused coding.version coding.variant state fragment.now out.old out.new) }
 {
-    if !format::known_version(coding.version) {
+    if !sqv4_format::known_version(coding.version) {
         return Err(Error::UnsupportedVersion(coding.version));
     }
     if !fragment_fits(coding, fragment, out.len()) {
         return Err(Error::InvalidFragment);
     }
     let start = usable(coding, state)?;
-    let end = fragment_core::decode_fragment(coding, start, &Coded { bytes: fragment }, out);
-    // Not by `fragment_core::state_after`: that one takes a `Reached`, and where fragments start anew the given state may be none.
+    let end = fragment_plain::decode_fragment(coding, start, &Coded { bytes: fragment }, out);
+    // Not by `fragment_plain::state_after`: that one takes a `Reached`, and where fragments start anew the given state may be none.
     if coding.starts_anew() {
         Ok(state)
     } else {

@@ -3,8 +3,8 @@ use Rattle.std.proofs.Common.{◌≡◌, ℕ, ◌+◌, ◌*◌, ◌/◌, ◌≤�
 use lib.Signed.{mag}
 use Rattle.signed.specs.Signed.{is_neg, with_sign, on_magnitude}
 use Rattle.signed.proofs.Laws.{mag_with_sign, clamp_fits}
-use Rattle.format.specs.Layout.{anew}
-use Rattle.format.specs.Gain.{nearest, normalised, output_gain}
+use Rattle.sqv4_format.specs.Layout.{anew}
+use Rattle.sqv4_format.specs.Gain.{nearest, normalised, output_gain}
 use Rattle.gain.specs.Rounding.{rounding}
 
 -- a gain of at most 1, cut or to nearest, does not raise a magnitude

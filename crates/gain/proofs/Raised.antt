@@ -2,7 +2,7 @@
 use Rattle.std.proofs.Common.{◌≡◌, ℕ, zero, suc, ◌+◌, ◌-◌, ◌*◌, ◌/◌, ◌≤◌, true, ℤ, pos, negsuc, sym, refl, ap, ◌∙◌, add-mul, mul-le-mul_left, arith}
 use lib.Signed.{mag}
 use Rattle.signed.specs.Signed.{is_neg, with_sign, raised}
-use Rattle.format.specs.Gain.{output_gain}
+use Rattle.sqv4_format.specs.Gain.{output_gain}
 use Rattle.gain.proofs.Laws.{scaled_fits, output_scaled}
 
 raised_negated : (q : ℕ) → raised (with_sign true q) ≡ 32768 - q

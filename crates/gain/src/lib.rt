@@ -5,10 +5,10 @@
 ghost use Rattle.std.specs.Prelude.{◌≡◌, ◌+◌, ◌*◌, ◌/◌, ◌<◌, ◌≤◌, length, unsigned_abs};
 ghost use Rattle.std.specs.Int.Signed.{mag};
 ghost use Rattle.signed.specs.Signed.{is_neg, with_sign, raised};
-ghost use Rattle.format.specs.Gain.{pregained, peak, volume_of, own_volume, normalised, output_gain};
+ghost use Rattle.sqv4_format.specs.Gain.{pregained, peak, volume_of, own_volume, normalised, output_gain};
 ghost use Rattle.gain.specs.Rounding.{rounding};
 
-use format::Coding;
+use sqv4_format::Coding;
 
 // Internal: m * gain / 255, by the two halves of 257 * m * gain: 257 * 255 is 65535, so that the high half is the quotient, or one
 // less where the halves together with what is added reach 65535. With 16-bit numbers only, eight are worked out at a time.

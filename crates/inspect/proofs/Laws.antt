@@ -4,9 +4,9 @@ use mathlib.Core.List.{List}
 use Prim.Native.Nat.{ℕ, ◌/◌}
 use Rattle.outcome.specs.Outcome.{Outcome, result}
 use Rattle.outcome.proofs.Laws.{cleared, passed}
-use Rattle.format.specs.Layout.{fragment_at_place}
-use Rattle.format.specs.Inspect.{fragment_checks}
-use Rattle.format.specs.declared.Header.{Header}
+use Rattle.sqv4_format.specs.Layout.{fragment_at_place}
+use Rattle.sqv4_format.specs.Inspect.{fragment_checks}
+use Rattle.sqv4_format.specs.declared.Header.{Header}
 
 -- the checks of the fragment at place p
 abbrev pub check_at : Header → List ℕ → ℕ → Outcome Header

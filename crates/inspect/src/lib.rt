@@ -3,15 +3,15 @@
 
 ghost use Rattle.std.specs.Prelude.{◌≡◌, ◌*◌, ◌/◌, ◌≤◌, length};
 ghost use Rattle.outcome.specs.Outcome.{in_order};
-ghost use Rattle.format.specs.Layout.{header_of, frames, fragment_at_place};
-ghost use Rattle.format.specs.Inspect.{same_letters, field_checks, header_checks, fragment_checks, inspected};
-ghost use Rattle.format.specs.Answers.{answered};
+ghost use Rattle.sqv4_format.specs.Layout.{header_of, frames, fragment_at_place};
+ghost use Rattle.sqv4_format.specs.Inspect.{same_letters, field_checks, header_checks, fragment_checks, inspected};
+ghost use Rattle.sqv4_format.specs.Answers.{answered};
 
-use format::{Error, Header, State, Variant};
 use layout::{Place, Stream};
+use sqv4_format::{Error, Header, State, Variant};
 
 // Internal: whether the first four bytes are "SQV4".
-#[tactic(auto, using(lists::proofs::Letters::letters_equal), unfolding(format::specs::Inspect::same_letters))]
+#[tactic(auto, using(lists::proofs::Letters::letters_equal), unfolding(sqv4_format::specs::Inspect::same_letters))]
 fn same_letters(file: &[u8]) -> bool
     requires { 4 ≤ length file.now }
     ensures { result ≡ same_letters file.now }
@@ -20,7 +20,7 @@ fn same_letters(file: &[u8]) -> bool
 }
 
 // Internal: what the first 16 bytes state, where the variant byte names this variant. By the definition's name: it takes two things.
-#[tactic(auto, unfolding(format::specs::Layout::header_of))]
+#[tactic(auto, unfolding(sqv4_format::specs::Layout::header_of))]
 fn header_of(file: &[u8], variant: Variant) -> Header
     requires { 16 ≤ length file.now }
     ensures { result ≡ header_of file.now variant }
@@ -35,7 +35,7 @@ fn header_of(file: &[u8], variant: Variant) -> Header
 }
 
 // Internal: the checks 1, 9, 2, 10, in this order.
-#[tactic(auto, using(outcome::proofs::Laws::checks), unfolding(format::specs::Inspect::field_checks, format::specs::Answers::number_of, format::specs::Answers::values_of))]
+#[tactic(auto, using(outcome::proofs::Laws::checks), unfolding(sqv4_format::specs::Inspect::field_checks, sqv4_format::specs::Answers::number_of, sqv4_format::specs::Answers::values_of))]
 fn field_checks(file: &[u8], h: Header) -> Result<Header, Error>
     requires { 16 ≤ length file.now }
     ensures { answered result ≡ field_checks file.now h }
@@ -61,7 +61,7 @@ fn field_checks(file: &[u8], h: Header) -> Result<Header, Error>
 }
 
 // The checks 5, 6, 7, 8, then 1, 9, 2, 10.
-#[tactic(auto, using(outcome::proofs::Laws::checks), unfolding(outcome::specs::Outcome::and_then, format::specs::Inspect::header_checks, format::specs::Answers::number_of, format::specs::Answers::values_of))]
+#[tactic(auto, using(outcome::proofs::Laws::checks), unfolding(outcome::specs::Outcome::and_then, sqv4_format::specs::Inspect::header_checks, sqv4_format::specs::Answers::number_of, sqv4_format::specs::Answers::values_of))]
 fn header_checks(file: &[u8]) -> Result<Header, Error>
     ensures { answered result ≡ header_checks file.now }
 {
@@ -72,7 +72,7 @@ fn header_checks(file: &[u8]) -> Result<Header, Error>
         return Err(Error::InvalidMagic);
     }
     let version = file[4];
-    if !format::known_version(version) {
+    if !sqv4_format::known_version(version) {
         return Err(Error::UnsupportedVersion(version));
     }
     let variant = Variant::try_from(file[5])?;
@@ -80,7 +80,7 @@ fn header_checks(file: &[u8]) -> Result<Header, Error>
 }
 
 // The checks 11 and 12 of a fragment.
-#[tactic(auto, using(outcome::proofs::Laws::checks), unfolding(format::specs::Inspect::fragment_checks, format::specs::Inspect::index_too_high, format::specs::Inspect::unused_zero, format::specs::Answers::number_of, format::specs::Answers::values_of))]
+#[tactic(auto, using(outcome::proofs::Laws::checks), unfolding(sqv4_format::specs::Inspect::fragment_checks, sqv4_format::specs::Inspect::index_too_high, sqv4_format::specs::Inspect::unused_zero, sqv4_format::specs::Answers::number_of, sqv4_format::specs::Answers::values_of))]
 fn fragment_checks(place: &Place) -> Result<Header, Error>
     ensures { answered result ≡ fragment_checks place.now.stream.header (place.now.p / place.now.stream.header.channels)
         (fragment_at_place place.now.stream.header place.now.stream.file.now place.now.p) }
@@ -111,7 +111,7 @@ fn check_fragments(stream: &Stream) -> Result<Header, Error>
 }
 
 // Inspection: the header of a stream that is accepted, or the first refusal.
-#[tactic(auto, unfolding(outcome::specs::Outcome::and_then, format::specs::Inspect::inspected))]
+#[tactic(auto, unfolding(outcome::specs::Outcome::and_then, sqv4_format::specs::Inspect::inspected))]
 pub fn inspect(file: &[u8]) -> Result<Header, Error>
     ensures { answered result ≡ inspected file.now }
 {

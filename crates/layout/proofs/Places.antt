@@ -9,9 +9,9 @@ use lib.Dec.{ltb}
 use mathlib.Core.List.{List}
 use lib.ListN.{take, drop}
 use mathlib.Core.Path.{◌≡◌, ap}
-use Rattle.format.specs.Layout.{rounded_up, whole_frame, frames, count, size_in, fragment_at_place}
-use Rattle.format.proofs.Sizes.{frame_in}
-use Rattle.format.specs.declared.Header.{Header}
+use Rattle.sqv4_format.specs.Layout.{rounded_up, whole_frame, frames, count, size_in, fragment_at_place}
+use Rattle.sqv4_format.proofs.Sizes.{frame_in}
+use Rattle.sqv4_format.specs.declared.Header.{Header}
 
 -- ---- fragments
 

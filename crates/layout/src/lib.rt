@@ -2,15 +2,15 @@
 #![tactic(auto)]
 
 ghost use Rattle.std.specs.Prelude.{◌≡◌, ◌-◌, ◌*◌, ◌/◌, ◌%◌, ◌^◌, ◌≤◌, ◌<◌, length};
-ghost use Rattle.format.specs.Layout.{channels_fit, frames, count, stream_length, fragment_at_place};
+ghost use Rattle.sqv4_format.specs.Layout.{channels_fit, frames, count, stream_length, fragment_at_place};
 
-use format::{Coded, Header};
+use sqv4_format::{Coded, Header};
 
 // Bytes of a stream's header.
 pub const HEADER_SIZE: usize = 16;
 
 // How many frames a stream has. None is empty.
-#[tactic(auto, using(format::proofs::Sizes::frames_few), unfolding(format::specs::Layout::frames))]
+#[tactic(auto, using(sqv4_format::proofs::Sizes::frames_few), unfolding(sqv4_format::specs::Layout::frames))]
 fn frame_count(h: Header) -> usize
     ensures { (result ≡ frames h) × (result ≤ h.samples) }
 {
@@ -18,7 +18,7 @@ fn frame_count(h: Header) -> usize
 }
 
 // Samples per channel of frame `f`, 0 past the last frame.
-#[tactic(auto, unfolding(format::specs::Layout::count))]
+#[tactic(auto, unfolding(sqv4_format::specs::Layout::count))]
 pub fn count_at(h: Header, f: usize) -> usize
     ensures { (result ≡ count h f) × (result ≤ 64) }
 {
@@ -50,7 +50,7 @@ pub fn stream_length(h: Header) -> usize
 
 // Whether the version has this channel count. No call of `wav_format::one_or_two`: that is the rule of WAV's channel field, this one
 // SQV4's, where the version may matter.
-#[tactic(auto, unfolding(format::specs::Layout::channels_fit))]
+#[tactic(auto, unfolding(sqv4_format::specs::Layout::channels_fit))]
 pub fn channels_fit(version: u8, channels: u8) -> bool
     ensures { result ≡ channels_fit version channels }
 {

@@ -8,14 +8,14 @@ use lib.IntN.{ℤ}
 use lib.ListN.{length, drop}
 use Rattle.outcome.specs.Outcome.{result, refused, and_then, on_result, output_after}
 use Rattle.outcome.proofs.Laws.{then_refused}
-use Rattle.format.specs.Layout.{variant_of}
-use Rattle.format.specs.Decode.{DecodedFragment, fragment_call, state_left}
-use Rattle.format.specs.Encode.{encode_call}
-use Rattle.format.specs.Inspect.{Sound}
-use Rattle.format.specs.declared.Variant.{Variant}
-use Rattle.format.specs.declared.Variant.TheVariants.{H, L, LPlus}
-use Rattle.format.specs.declared.Header.{Header}
-use Rattle.format.specs.declared.State.{State}
+use Rattle.sqv4_format.specs.Layout.{variant_of}
+use Rattle.sqv4_format.specs.Decode.{DecodedFragment, fragment_call, state_left}
+use Rattle.sqv4_format.specs.Encode.{encode_call}
+use Rattle.sqv4_format.specs.Inspect.{Sound}
+use Rattle.sqv4_format.specs.declared.Variant.{Variant}
+use Rattle.sqv4_format.specs.declared.Variant.TheVariants.{H, L, LPlus}
+use Rattle.sqv4_format.specs.declared.Header.{Header}
+use Rattle.sqv4_format.specs.declared.State.{State}
 use Rattle.wav_format.specs.declared.Part.{Part}
 use Rattle.postlapse.specs.Answers.{answer_of, header_answer_of, wave_answer_of, with_state}
 use Rattle.postlapse.specs.Promises.{encode_for_c, fragment_for_c, Fills, Decodes, Plays, PlaysByValue}

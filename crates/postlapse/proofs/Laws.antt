@@ -9,13 +9,13 @@ use Rattle.std.specs.Result.{is_ok}
 use Rattle.std.specs.declared.result.Result.{Result}
 use Rattle.std.specs.declared.result.Result.TheVariants.{Ok, Err}
 use Rattle.outcome.specs.Outcome.{Outcome, result, refused, and_then, on_result, output_after}
-use Rattle.format.specs.Layout.{variant_of, anew}
-use Rattle.format.specs.Decode.{DecodedFragment, fragment_call, state_left, moves}
-use Rattle.format.specs.Answers.{answered}
-use Rattle.format.specs.declared.Error.{Error}
-use Rattle.format.specs.declared.State.{State}
-use Rattle.format.specs.declared.Variant.{Variant}
-use Rattle.format.proofs.Range.{unmoved}
+use Rattle.sqv4_format.specs.Layout.{variant_of, anew}
+use Rattle.sqv4_format.specs.Decode.{DecodedFragment, fragment_call, state_left, moves}
+use Rattle.sqv4_format.specs.Answers.{answered}
+use Rattle.sqv4_format.specs.declared.Error.{Error}
+use Rattle.sqv4_format.specs.declared.State.{State}
+use Rattle.sqv4_format.specs.declared.Variant.{Variant}
+use Rattle.sqv4_format.proofs.Range.{unmoved}
 use Rattle.wav_format.specs.Answers.{values_of}
 use Rattle.wav_format.specs.declared.WaveError.{WaveError}
 use Rattle.wav_format.specs.declared.WaveError.TheVariants.{NotWave, RiffEnd, ChunkHeader, ChunkEnd, FormatChunk, DataChunk, NoFormat, Encoding, Channels, ZeroRate, ByteRate, Inconsistent, NoData, PartialFrame, WriterChannels, DataSize, RiffSize, WriterByteRate, OutputTooShort, StrictFormat, StrictOrder, StrictEnd}

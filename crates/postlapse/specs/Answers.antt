@@ -2,9 +2,9 @@
 -- it, 0 where there are none. Assumes nothing.
 use Rattle.std.specs.Prelude.{ℕ, get_or}
 use Rattle.outcome.specs.Outcome.{Outcome, result, refused}
-use Rattle.format.specs.Layout.{variant_byte}
-use Rattle.format.specs.declared.Header.{Header}
-use Rattle.format.specs.declared.State.{State}
+use Rattle.sqv4_format.specs.Layout.{variant_byte}
+use Rattle.sqv4_format.specs.declared.Header.{Header}
+use Rattle.sqv4_format.specs.declared.State.{State}
 use Rattle.wav_format.specs.declared.Wave.{Wave}
 use Rattle.postlapse.specs.declared.Answer.{Answer}
 use Rattle.postlapse.specs.declared.HeaderAnswer.{HeaderAnswer}

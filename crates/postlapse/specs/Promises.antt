@@ -1,11 +1,11 @@
 -- The calls for C, and what they promise: answer, state and every lent place are those of the call's outcome. Assumes nothing.
 use Rattle.std.specs.Prelude.{◌≡◌, ℕ, List, ℤ, length}
 use Rattle.outcome.specs.Outcome.{Outcome, and_then, on_result, output_after}
-use Rattle.format.specs.Layout.{variant_of}
-use Rattle.format.specs.Decode.{DecodedFragment, fragment_call, state_left}
-use Rattle.format.specs.Encode.{encode_call}
-use Rattle.format.specs.Inspect.{Sound}
-use Rattle.format.specs.declared.State.{State}
+use Rattle.sqv4_format.specs.Layout.{variant_of}
+use Rattle.sqv4_format.specs.Decode.{DecodedFragment, fragment_call, state_left}
+use Rattle.sqv4_format.specs.Encode.{encode_call}
+use Rattle.sqv4_format.specs.Inspect.{Sound}
+use Rattle.sqv4_format.specs.declared.State.{State}
 use Rattle.postlapse.specs.Answers.{answer_of, header_answer_of, with_state}
 use Rattle.postlapse.specs.declared.Answer.{Answer}
 use Rattle.postlapse.specs.declared.HeaderAnswer.{HeaderAnswer}

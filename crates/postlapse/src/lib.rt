@@ -3,18 +3,18 @@
 
 ghost use Rattle.std.specs.Prelude.{◌≡◌, length};
 ghost use Rattle.outcome.specs.Outcome.{outcome_of, refused, on_result, output_after};
-ghost use Rattle.format.specs.Decode.{moves};
-ghost use Rattle.format.specs.Inspect.{inspected, decode_call};
-ghost use Rattle.format.specs.Answers.{answered};
+ghost use Rattle.sqv4_format.specs.Decode.{moves};
+ghost use Rattle.sqv4_format.specs.Inspect.{inspected, decode_call};
+ghost use Rattle.sqv4_format.specs.Answers.{answered};
 ghost use Rattle.wav_format.specs.Samples.{samples_call};
 ghost use Rattle.wav_format.specs.Wave.{read_wave, read_strict};
 ghost use Rattle.wav_writer.specs.Writer.{write_call};
 ghost use Rattle.postlapse.specs.Answers.{answer_of, header_answer_of, wave_answer_of, with_state};
 ghost use Rattle.postlapse.specs.Promises.{encode_for_c, fragment_for_c, Fills, Decodes, Plays, PlaysAs, PlaysByValue};
 
-use format::{Error, Header, State, Variant};
 use fragment::Returned;
 use outcome::{Refusal, Values};
+use sqv4_format::{Error, Header, State, Variant};
 use wav_format::Wave;
 
 // A count, or a refusal: 0 and how many bytes or samples were written; or the number in 01's table and its returned numbers, 0 where
@@ -221,7 +221,7 @@ pub fn postlapse_decode(file: &[u8], out: &mut [i16]) -> HeaderAnswer
 fn moves(version: u8, answer: &Result<usize, Error>) -> bool
     ensures { result ≡ moves version (answered answer.now) }
 {
-    !format::starts_anew(version) && answer.is_ok()
+    !sqv4_format::starts_anew(version) && answer.is_ok()
 }
 
 // Decodes one fragment of the variant that a byte names.

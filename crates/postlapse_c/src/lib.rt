@@ -3,15 +3,15 @@
 #![tactic(auto)]
 
 ghost use Rattle.std.specs.Prelude.{◌≡◌, length};
-ghost use Rattle.format.specs.Inspect.{inspected, decode_call};
+ghost use Rattle.sqv4_format.specs.Inspect.{inspected, decode_call};
 ghost use Rattle.wav_format.specs.Samples.{samples_call};
 ghost use Rattle.wav_format.specs.Wave.{read_wave, read_strict};
 ghost use Rattle.wav_writer.specs.Writer.{write_call};
 ghost use Rattle.postlapse.specs.Answers.{header_answer_of, wave_answer_of};
 ghost use Rattle.postlapse.specs.Promises.{encode_for_c, fragment_for_c, Fills, Decodes, Plays, PlaysByValue};
 
-use format::State;
 use postlapse::{Answer, FragmentAnswer, HeaderAnswer, WaveAnswer};
+use sqv4_format::State;
 
 // Encodes interleaved samples into `out`, as a stream of version 3, and answers its length.
 #[unsafe(no_mangle)]

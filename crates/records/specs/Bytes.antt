@@ -1,7 +1,7 @@
 -- What recorded answers hold. Assumes nothing.
 use Rattle.std.specs.Prelude.{ℕ, ℤ, pos, negsuc, neg_ℤ, List, [], ◌∷◌, ◌++◌, cond, leb, eqb, unsigned_abs}
 use Rattle.std.specs.Int.{is_negative, to_le_bytes, w64}
-use Rattle.format.specs.declared.State.{State}
+use Rattle.sqv4_format.specs.declared.State.{State}
 
 -- a decoder's state: 1 where the predictor is negative and else 0, its magnitude, and the index
 unfoldable pub state_bytes : State → List ℕ

@@ -13,10 +13,10 @@ mod list;
 mod question;
 
 use commands::ROOM;
-use format::State;
 pub use kind::Kind;
 pub use list::replay;
 pub use question::{Fragment, Question};
+use sqv4_format::State;
 use text::Printer;
 
 // The first n elements, all where there are no more.

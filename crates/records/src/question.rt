@@ -2,7 +2,7 @@ ghost use Rattle.std.specs.Prelude.{◌≡◌, ◌≤◌, ◌<◌, length, repli
 ghost use Rattle.std.specs.Int.{from_le_bytes, w32, w64};
 ghost use Rattle.records.specs.Bytes.{predictor_of};
 
-use format::State;
+use sqv4_format::State;
 
 // What is left of a question: numbers, of which the lowest byte comes first, and then bytes.
 #[derive(Clone, Copy)]

@@ -5,9 +5,9 @@
 // for each file how many answers there were and how many differ.
 #![tactic(auto)]
 
-use format::State;
 use postlapse::{Answer, HeaderAnswer, WaveAnswer};
 use records::{Fragment, Kind, Question, front};
+use sqv4_format::State;
 use std::io;
 use text::Printer;
 

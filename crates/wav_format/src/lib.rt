@@ -1,4 +1,4 @@
-// The types of WAV files: refusals, chunks, and what a file says. This room is to WAV what `format` is to SQV4: the rules of reading stand
+// The types of WAV files: refusals, chunks, and what a file says. This room is to WAV what `sqv4_format` is to SQV4: the rules of reading stand
 // as definitions in specs/, and what is proved of them in proofs/.
 #![tactic(auto)]
 
@@ -105,7 +105,7 @@ pub struct Chunks {
     pub samples: Option<Part>,
 }
 
-// What a WAV file says, and where its samples lie. `format` and `end`, the RIFF end, are for strict reading.
+// What a WAV file says, and where its samples lie. `sqv4_format` and `end`, the RIFF end, are for strict reading.
 #[derive(Clone, Copy)]
 pub struct Wave {
     pub channels: u16,

@@ -3,7 +3,7 @@ use mathlib.Core.Path.{sym}
 use Prim.Native.Nat.{◌%◌}
 use lib.IntN.{pos}
 use lib.ListN.{get_or}
-use Rattle.format.specs.Tables.{h_index_adjust, l_index_adjust}
+use Rattle.sqv4_format.specs.Tables.{h_index_adjust, l_index_adjust}
 use Rattle.adpcm.proofs.Bounds.{adjustment_read, three, adjustment_three}
 use Rattle.adpcm.proofs.adjustment.Goals as goal
 

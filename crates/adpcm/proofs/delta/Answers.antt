@@ -1,7 +1,7 @@
 -- `adpcm::delta` meets its contract: every difference is at most 65535. Assumes nothing.
 use mathlib.Core.Path.{refl}
 use Rattle.signed.proofs.Laws.{back32, nat_abs-with_sign}
-use Rattle.format.specs.Step.{difference}
+use Rattle.sqv4_format.specs.Step.{difference}
 use Rattle.adpcm.proofs.delta.Goals as goal
 
 pub returns : goal.returns

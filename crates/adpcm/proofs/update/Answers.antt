@@ -1,6 +1,6 @@
 -- `adpcm::update` meets its contract. Assumes nothing.
 use Rattle.signed.proofs.Laws.{back32, read16, clamp_fits, clamp_to_le}
-use Rattle.format.specs.Step.{unclamped_predictor, unclamped_index, stepped}
+use Rattle.sqv4_format.specs.Step.{unclamped_predictor, unclamped_index, stepped}
 use Rattle.adpcm.proofs.update.Goals as goal
 
 pub invariant_of-result : goal.invariant_of-result

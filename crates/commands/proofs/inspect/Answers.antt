@@ -1,7 +1,7 @@
 -- `commands::inspect` meets its contract. Assumes nothing.
 use mathlib.Core.Path.{sym}
-use Rattle.format.proofs.Accepted.{accepted}
-use Rattle.format.proofs.Sizes.{channels_few}
+use Rattle.sqv4_format.proofs.Accepted.{accepted}
+use Rattle.sqv4_format.proofs.Sizes.{channels_few}
 use Rattle.commands.proofs.Printing.{gives_error, gives_text, stream_refused, stream_reported}
 use Rattle.commands.proofs.inspect.Goals as goal
 

@@ -3,7 +3,7 @@ use Prim.Native.Nat.{◌*◌, ◌≤◌}
 use lib.ListN.{length}
 use Rattle.lists.specs.Lists.{joined}
 use Rattle.text.specs.Printer.{Printed}
-use Rattle.lines.specs.Lines.{fragment_line}
+use Rattle.report_lines.specs.Lines.{fragment_line}
 use Rattle.commands.proofs.put_report.Given as goal
 
 abbrev pub invariant-loop-p : goal.invariant-loop-p

@@ -1,8 +1,8 @@
 -- `decoder::decode` meets its contract. Assumes nothing.
 use mathlib.Core.Path.{sym}
 use Rattle.std.proofs.lemmas.Result.{err_from_is_err_and}
-use Rattle.format.proofs.Accepted.{accepted}
-use Rattle.format.proofs.Sizes.{channels_few}
+use Rattle.sqv4_format.proofs.Accepted.{accepted}
+use Rattle.sqv4_format.proofs.Sizes.{channels_few}
 use Rattle.decoder.proofs.Decoding.{decode_short, decode_filled, decode_stopped}
 use Rattle.decoder.proofs.decode.Goals as goal
 

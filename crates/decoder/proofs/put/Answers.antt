@@ -6,7 +6,7 @@ use mathlib.Core.Path.{◌≡◌, sym, ap, ◌∙◌}
 use mathlib.Core.List.{List}
 use lib.IntN.{ℤ, pos}
 use lib.ListN.{length, take, length-take}
-use Rattle.format.specs.Layout.{whole_frame, count}
+use Rattle.sqv4_format.specs.Layout.{whole_frame, count}
 use Rattle.layout.specs.declared.Place.{Place}
 use Rattle.layout.proofs.Places.{Room, frame_room, frame_of_lem}
 use Rattle.decoder.specs.Loops.{spread, put_at}

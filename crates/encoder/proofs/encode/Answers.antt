@@ -4,11 +4,11 @@ use mathlib.Core.Bool.{true}
 use Prim.Native.Nat.{◌/◌, ◌≤◌, ◌<◌}
 use native.Mathlib.Omega.{arith}
 use lib.ListN.{length}
-use Rattle.format.proofs.Sizes.{channels_few}
-use Rattle.format.specs.Answers.{number_of, values_of}
-use Rattle.format.specs.Layout.{channels_fit}
-use Rattle.format.specs.Encode.{header_written, too_many, encode_call}
-use Rattle.format.specs.declared.Error.TheVariants as E
+use Rattle.sqv4_format.proofs.Sizes.{channels_few}
+use Rattle.sqv4_format.specs.Answers.{number_of, values_of}
+use Rattle.sqv4_format.specs.Layout.{channels_fit}
+use Rattle.sqv4_format.specs.Encode.{header_written, too_many, encode_call}
+use Rattle.sqv4_format.specs.declared.Error.TheVariants as E
 use Rattle.outcome.proofs.Flags.{via}
 use Rattle.outcome.proofs.Laws.{checks}
 use Rattle.encoder.proofs.Encoding.{as_refused, as_written, too_short, long_enough, headed_length}

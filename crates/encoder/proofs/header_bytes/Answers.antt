@@ -1,7 +1,7 @@
 -- `encoder::header_bytes` meets its contract. Assumes nothing.
 use mathlib.Core.Path.{refl}
 use Rattle.digits.specs.Digits.{digits}
-use Rattle.format.specs.Layout.{header_bytes}
+use Rattle.sqv4_format.specs.Layout.{header_bytes}
 use Rattle.encoder.proofs.header_bytes.Goals as goal
 
 pub returns : goal.returns

@@ -4,7 +4,7 @@ use native.Mathlib.Nat.{mod-lt}
 use native.Mathlib.Omega.{arith}
 use borrow.Author.Rules.{rules}
 use lib.ListN.{length, length-take, length-drop}
-use Rattle.format.specs.Layout.{fragment_size, frames}
+use Rattle.sqv4_format.specs.Layout.{fragment_size, frames}
 use Rattle.encoder.proofs.EncodeLoop.{writing_none, writing_lent, length_writing, written_size, written_frames, written_count}
 use Rattle.layout.proofs.Places.{frame_of_lem, gather_room, spot}
 use Rattle.encoder.proofs.put_fragments.Goals as goal

@@ -3,7 +3,7 @@ use Rattle.std.proofs.Common.{◌≡◌, to_z, of_z, w32, arith, to_z-of_z}
 use mir.Facts.{sfits_widen}
 use Rattle.signed.specs.Signed.{on_magnitude}
 use Rattle.signed.proofs.Laws.{back32}
-use Rattle.format.specs.Gain.{normalised}
+use Rattle.sqv4_format.specs.Gain.{normalised}
 use Rattle.gain.proofs.Laws.{normalised-fits}
 use Rattle.gain.proofs.normalize.Goals as goal
 use Rattle.gain.proofs.normalize.Goals.{After-clamp16}

@@ -6,7 +6,7 @@ use Rattle.std.proofs.lemmas.Iterator.{YieldsList-from_slice, YieldsList-from_ma
 use Rattle.std.proofs.lemmas.Iterator.Consumers.{reduce_from_yields_List}
 use Rattle.std.proofs.lemmas.List.Folds.{max_of_map}
 use Rattle.std.proofs.lemmas.List.Sums.{fold_more}
-use Rattle.format.specs.Gain.{peak}
+use Rattle.sqv4_format.specs.Gain.{peak}
 use Rattle.gain.proofs.peak_of.Goals as goal
 
 -- the peak as a fold over the list

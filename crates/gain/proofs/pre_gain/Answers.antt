@@ -2,7 +2,7 @@
 use Rattle.std.proofs.Common.{ap, arith, to_z-of_z}
 use Rattle.signed.specs.Signed.{is_neg, with_sign, on_magnitude}
 use Rattle.signed.proofs.Laws.{back16}
-use Rattle.format.specs.Gain.{pregained}
+use Rattle.sqv4_format.specs.Gain.{pregained}
 use Rattle.gain.proofs.pre_gain.Goals as goal
 
 pub returns : goal.returns

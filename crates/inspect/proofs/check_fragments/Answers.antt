@@ -2,7 +2,7 @@ use mathlib.Core.Path.{◌≡◌, sym, ◌∙◌}
 use native.Mathlib.Numerals.{add-one}
 use native.Mathlib.Omega.{arith}
 use Rattle.outcome.proofs.Laws.{passed_on, order_next, order_refused}
-use Rattle.format.specs.Answers.{answered}
+use Rattle.sqv4_format.specs.Answers.{answered}
 use Rattle.inspect.proofs.Laws.{check_at, same-header}
 use Rattle.inspect.proofs.check_fragments.Goals as goal
 use Rattle.inspect.proofs.check_fragments.Goals.{After-fragment_checks}

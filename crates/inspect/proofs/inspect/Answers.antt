@@ -1,7 +1,7 @@
 -- `inspect::inspect` meets its contract: the header's checks, and then the fragments'. Assumes nothing.
 use mathlib.Core.Path.{sym}
-use Rattle.format.proofs.Accepted.{headed}
-use Rattle.format.proofs.Sizes.{channels_few}
+use Rattle.sqv4_format.proofs.Accepted.{headed}
+use Rattle.sqv4_format.proofs.Sizes.{channels_few}
 use Rattle.inspect.proofs.inspect.Goals as goal
 
 pub invariant_of-check_fragments : goal.invariant_of-check_fragments

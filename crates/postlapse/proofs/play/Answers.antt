@@ -1,7 +1,7 @@
 -- `postlapse::play` meets its contract: a byte that names no variant is refused first, and else the fragment decoder answers. Assumes nothing.
 use mathlib.Core.Path.{refl}
 use Rattle.outcome.proofs.Laws.{then_result, then_refused}
-use Rattle.format.specs.Decode.{called}
+use Rattle.sqv4_format.specs.Decode.{called}
 use Rattle.postlapse.specs.Promises.{fragment_for_c}
 use Rattle.postlapse.proofs.Laws.{plays_none}
 use Rattle.postlapse.proofs.play.Goals as goal

@@ -1,7 +1,7 @@
 -- `layout::Place::samples` meets its contract. Assumes nothing.
 use mathlib.Core.Path.{◌≡◌, ◌∙◌}
 use borrow.Author.Tests.{lt-ltb, le-ltb}
-use Rattle.format.specs.Layout.{whole_frame}
+use Rattle.sqv4_format.specs.Layout.{whole_frame}
 use Rattle.layout.proofs.Places.{count_at_place}
 use Rattle.layout.proofs.Place.samples.Goals as goal
 

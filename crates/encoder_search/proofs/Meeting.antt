@@ -1,0 +1,105 @@
+-- Two trials that stand at one state go on alike: the marks of a trial, and what they say of another. Assumes nothing.
+use mathlib.Core.Path.{◌≡◌, refl, sym, ◌∙◌, ap}
+use mathlib.Core.List.{List, map}
+use Prim.Native.Nat.{ℕ, zero, suc, ◌+◌, ◌-◌, ◌≤◌, ◌<◌}
+use native.Mathlib.Nat.{zero-add, suc-add}
+use native.Mathlib.Omega.{arith}
+use lib.IntN.{ℤ, pos, nat_abs, ◌-ℤ◌}
+use lib.ListN.{length, get_or, set, take, length-set}
+use lib.Seq.{get_or-take}
+use Rattle.lists.specs.Lists.{tabulate}
+use Rattle.lists.proofs.ByIndex.{get_d_tabulate, fill_next, map_at}
+use Rattle.signed.proofs.Raised.{raised-same}
+use Rattle.sqv4_format.specs.Step.{stepped}
+use Rattle.sqv4_format.specs.Gain.{normalised, output_gain}
+use Rattle.sqv4_format.specs.Decode.{InRange}
+use Rattle.sqv4_format.specs.Encode.{square, code_for, trial_step, trial_to}
+use Rattle.sqv4_format.specs.declared.Settings.{Settings}
+use Rattle.sqv4_format.specs.declared.State.{State}
+use Rattle.sqv4_format.proofs.Range.{start_range, stepped_range}
+use Rattle.encoder_search.specs.Search.{key, mark_of, marks_of, Ran, tie, Beaten}
+use Rattle.encoder_search.specs.declared.Mark.{Mark}
+use Rattle.encoder_search.specs.declared.Best.{Best}
+use Rattle.encoder_search.proofs.Summed.{Summed, summed_more, over_limit}
+
+-- ---- a state and its key
+
+same : (a b : ℤ) (i j : ℕ) → a ≡ b → i ≡ j → ◌≡◌ {A = State} (record { predictor = a; index = i }) (record { predictor = b; index = j })
+same a b i j p q = rw (p, q)
+
+key-same : (s t : State) → InRange s → InRange t → key s ≡ key t → s ≡ t
+unfolding key
+key-same s t hs ht e =
+    let i : s.index ≡ t.index = omega (arith, hs.index, ht.index) in
+    same s.predictor t.predictor s.index t.index (raised-same s.predictor t.predictor hs.predictor ht.predictor (omega arith)) i
+
+module _ (k : Settings) (v : ℕ) (xs : List ℤ) where
+  trial_range : (index n : ℕ) → InRange (trial_to k v xs index n).state
+  unfolding trial_to trial_step
+  trial_range index zero = start_range index
+  trial_range index (suc n) = stepped_range 3 k.variant (trial_to k v xs index n).state _
+
+  -- j samples on
+  alike : (a b i : ℕ) → (trial_to k v xs a i).state ≡ (trial_to k v xs b i).state → (j : ℕ)
+      → ((trial_to k v xs a (j + i)).state ≡ (trial_to k v xs b (j + i)).state)
+      × ((trial_to k v xs a (j + i)).sum + (trial_to k v xs b i).sum ≡ (trial_to k v xs b (j + i)).sum + (trial_to k v xs a i).sum)
+  unfolding trial_to trial_step
+  alike a b i e zero = rw zero-add (e, omega arith)
+  alike a b i e (suc j) = let h = alike a b i e j in rw (suc-add, h.0) (refl, omega (arith, h.1))
+
+  -- ---- the loop of a trial that leaves its marks
+
+  pub record Traced (index i : ℕ) (s : State) (sum : ℕ) (trace : List Mark) : Type 0 where
+    pub summed : Summed k v xs index i s sum
+    pub room : length trace ≡ 63
+    pub marked : take i trace ≡ marks_of k v xs index i
+
+  module _ {index : ℕ} where
+    pub traced_none : {s : State} {trace : List Mark} → Summed k v xs index 0 s 0 → length trace ≡ 63 → Traced index 0 s 0 trace
+    unfolding marks_of tabulate
+    traced_none d h = record { summed = d; room = h; marked = refl }
+
+    pub traced_more : {i : ℕ} {s t : State} {sum sum' key' : ℕ} {trace : List Mark} → Traced index i s sum trace → i < 63 → key' ≡ key s
+        → Summed k v xs index (i + 1) t sum' → Traced index (i + 1) t sum' (set trace i (record { sum = sum; key = key' }))
+    unfolding marks_of
+    traced_more {i} {s} {t} {sum} {sum'} {key'} {trace} d h e m =
+        record {
+          summed = m;
+          room = rw length-set d.room;
+          marked = fill_next (λ i. mark_of (trial_to k v xs index i)) trace i (record { sum = sum; key = key' }) (omega (arith, d.room)) d.marked (rw (e, d.summed.state, d.summed.total));
+        }
+
+    -- a sample more, where the targets are the samples normalised
+    pub traced_next : {i : ℕ} {s t : State} {sum q key' : ℕ} {trace : List Mark} {targets : List ℤ} → Traced index i s sum trace
+        → i < length xs → length xs ≤ 63 → targets ≡ map (normalised v) xs → key' ≡ key s
+        → t ≡ stepped 3 k.variant s (code_for k.variant s (get_or targets i (pos 0)))
+        → q ≡ square (nat_abs (get_or xs i (pos 0) -ℤ output_gain 3 v t.predictor)) → q ≤ 4294967296
+        → Traced index (i + 1) t (sum + q) (set trace i (record { sum = sum; key = key' }))
+    traced_next {i} d h few et ek es eq hq =
+        let y = ap (λ (l : List ℤ). get_or l i (pos 0)) et ∙ map_at (normalised v) xs i (pos 0) (pos 0) h in
+        traced_more d (omega arith) ek (summed_more k v xs index d.summed h refl y es eq hq)
+
+    -- the sum so far is at most the whole
+    pub stopped : {i sum : ℕ} {s : State} {trace : List Mark} {b : Best} → Traced index i s sum trace → b.found.sum + tie index b.found.index ≤ sum
+        → Beaten k v xs index b
+    stopped d h = record { over = omega (arith, over_limit _ _ _ _ d.summed) }
+
+  -- ---- the marks of the best trial
+
+  mark_at : {b : Best} (d : Mark) → Ran k v xs b → (i : ℕ) → i < length xs → get_or b.marks i d ≡ mark_of (trial_to k v xs b.found.index i)
+  unfolding marks_of
+  mark_at {b} d r i h =
+      sym (get_or-take (length xs) b.marks i d h)
+      ∙ ap (λ (l : List Mark). get_or l i d) r.marked
+      ∙ get_d_tabulate (λ j. mark_of (trial_to k v xs b.found.index j)) (length xs) i d h
+
+  -- met at i samples
+  pub met : {b : Best} {index i key' : ℕ} {s : State} {sum : ℕ} (d : Mark) → Ran k v xs b → Summed k v xs index i s sum → i < length xs → key' ≡ key s
+      → (get_or b.marks i d).key ≡ key' → (get_or b.marks i d).sum + tie index b.found.index ≤ sum → Beaten k v xs index b
+  met {b} {index} {i} {key'} {s} {sum} d r t h ek e l =
+      let m = mark_at d r i h in
+      let ed : key (trial_to k v xs index i).state ≡ key (trial_to k v xs b.found.index i).state = ap key (sym t.state) ∙ sym ek ∙ sym e ∙ ap (λ (m : Mark). m.key) m in
+      let es = key-same (trial_to k v xs index i).state (trial_to k v xs b.found.index i).state (trial_range index i) (trial_range b.found.index i) ed in
+      let f : length xs - i + i ≡ length xs = omega arith in
+      let w = rw f at (alike index b.found.index i es (length xs - i)).1 in
+      record { over = omega (arith, ap (λ (m : Mark). m.sum) m, t.total, r.sum) }

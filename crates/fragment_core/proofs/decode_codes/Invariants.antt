@@ -1,6 +1,0 @@
--- `fragment_core::decode_codes` meets its contract: the invariant is the record `Decoded` of proofs/Run. Assumes nothing.
-use Rattle.fragment_core.proofs.Run.{Decoded}
-use Rattle.fragment_core.proofs.decode_codes.Given as goal
-
-abbrev pub invariant-loop-i : goal.invariant-loop-i
-invariant-loop-i l = Decoded l.coding.version l.coding.variant l.codes l.initial.state.state l.volume l.initial.out l.i l.out l.state.state

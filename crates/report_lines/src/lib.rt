@@ -1,0 +1,95 @@
+// The lines that the programs print: a refusal's, and those of the inspector's report. Each function prints the text of its definition
+// in specs/, which has at most 128 bytes.
+#![tactic(auto)]
+
+ghost use Rattle.std.specs.Prelude.{◌≡◌, ◌≤◌, length};
+ghost use Rattle.outcome.specs.Outcome.{listed};
+ghost use Rattle.text.specs.Printer.{Printed};
+ghost use Rattle.report_lines.specs.Lines.{refusal_line, spaced_values, variant_name, header_line, index_field, fragment_line};
+
+use layout::Place;
+use outcome::{Refusal, Values};
+use sqv4_format::{Coded, Coding, Header, Variant};
+use text::Printer;
+
+// The numbers that a refusal returns, each after a space.
+#[tactic(auto, using(text::proofs::Laws::printed_none, text::proofs::Laws::then_printed, crate::proofs::Lines::no_values, crate::proofs::Lines::one_value, crate::proofs::Lines::two_values), unfolding(crate::specs::Lines::spaced_values, text::specs::Text::letters))]
+fn values(page: &mut Printer, values: Values)
+    ensures prints { Printed page.old (spaced_values (listed values)) page.new }
+    ensures short { length (spaced_values (listed values)) ≤ 42 }
+{
+    match values {
+        Values::Zero => {}
+        Values::One(first) => page.field(b" ", first as u64),
+        Values::Two(first, second) => {
+            page.field(b" ", first as u64);
+            page.field(b" ", second as u64);
+        }
+    }
+}
+
+// The line of a refusal.
+#[tactic(auto, using(crate::proofs::Lines::refusal_few))]
+pub fn refusal_line<E: Refusal>(page: &mut Printer, refusal: E)
+    ensures prints { Printed page.old (refusal_line (E.number_of refusal) (E.values_of refusal)) page.new }
+    ensures short { length (refusal_line (E.number_of refusal) (E.values_of refusal)) ≤ 128 }
+{
+    page.field(b"refused ", refusal.number() as u64);
+    values(page, refusal.values());
+    page.word(b"\n");
+}
+
+// A variant's name. It is no `Display`: of what a formatter writes, std's `fmt::Write` says too little to prove the whole line.
+#[tactic(auto, unfolding(crate::specs::Lines::variant_name, text::specs::Text::letters))]
+fn name(variant: Variant) -> &'static [u8]
+    ensures { result.now ≡ variant_name variant }
+{
+    match variant {
+        Variant::H => b"H",
+        Variant::L => b"L",
+        Variant::LPlus => b"L+",
+    }
+}
+
+// The header's line.
+#[tactic(auto, using(crate::proofs::Lines::header_few))]
+pub fn header_line(page: &mut Printer, h: Header)
+    ensures prints { Printed page.old (header_line h) page.new }
+    ensures short { length (header_line h) ≤ 128 }
+{
+    page.field(b"version ", h.version as u64);
+    page.word(b" variant ");
+    page.word(name(h.variant));
+    page.field(b" channels ", h.channels as u64);
+    page.field(b" rate ", h.rate as u64);
+    page.field(b" samples ", h.samples as u64);
+    page.word(b"\n");
+}
+
+// Internal: the index field of a fragment.
+#[tactic(auto, using(crate::proofs::Lines::index_few), unfolding(crate::specs::Lines::index_field, text::specs::Text::letters))]
+fn index_field(page: &mut Printer, coding: Coding, fragment: &Coded)
+    ensures prints { Printed page.old (index_field coding.version fragment.now.bytes.now) page.new }
+    ensures short { length (index_field coding.version fragment.now.bytes.now) ≤ 20 }
+{
+    match fragment.index(coding) {
+        Some(index) => page.number(index as u64),
+        None => page.word(b"-"),
+    }
+}
+
+// The line of the fragment at a place of a stream.
+#[tactic(auto, using(crate::proofs::Lines::fragment_few))]
+pub fn fragment_line(page: &mut Printer, place: &Place)
+    ensures prints { Printed page.old (fragment_line place.now.stream.header place.now.stream.file.now place.now.p) page.new }
+    ensures short { length (fragment_line place.now.stream.header place.now.stream.file.now place.now.p) ≤ 128 }
+{
+    let fragment = place.fragment();
+    page.number(place.frame() as u64);
+    page.field(b" ", place.channel() as u64);
+    page.field(b" ", place.samples() as u64);
+    page.field(b" ", fragment.volume() as u64);
+    page.word(b" ");
+    index_field(page, place.stream.header.coding(), &fragment);
+    page.word(b"\n");
+}
