@@ -68,9 +68,9 @@ extern "C" {
 #endif
 
 /* The variant, as the byte of a stream: codes of 4 bits (H) or of 3 bits (L, L+). */
-#define POSTLAPSE_H_VARIANT 0
-#define POSTLAPSE_L_VARIANT 1
-#define POSTLAPSE_L_PLUS_VARIANT 2
+#define POSTLAPSE_VARIANT_H 0
+#define POSTLAPSE_VARIANT_L 1
+#define POSTLAPSE_VARIANT_L_PLUS 2
 
 /* A count or a refusal: `first` is how many elements were written where `refusal` is 0. */
 typedef struct {

@@ -28,17 +28,17 @@ int main(void) {
         pcm[i] = tone(i);
     }
 
-    postlapse_answer asked = postlapse_encode(pcm, COUNT, 1, 8000, POSTLAPSE_H_VARIANT, 255, stream, 0);
+    postlapse_answer asked = postlapse_encode(pcm, COUNT, 1, 8000, POSTLAPSE_VARIANT_H, 255, stream, 0);
     printf("room 0: refused %zu, needed %zu\n", asked.refusal, asked.first);
     expect(asked.refusal == 13 && asked.first == 16 + 2 * FRAGMENT, "the length needed");
 
-    postlapse_answer encoded = postlapse_encode(pcm, COUNT, 1, 8000, POSTLAPSE_H_VARIANT, 255, stream, ROOM);
+    postlapse_answer encoded = postlapse_encode(pcm, COUNT, 1, 8000, POSTLAPSE_VARIANT_H, 255, stream, ROOM);
     printf("encoded: %zu bytes\n", encoded.first);
     expect(encoded.refusal == 0 && encoded.first == asked.first, "the encoding");
 
     postlapse_header_answer h = postlapse_inspect(stream, encoded.first);
     printf("header: version %u variant %u channels %u rate %u samples %u\n", h.version, h.variant, h.channels, h.rate, h.samples);
-    expect(h.refusal == 0 && h.version == 3 && h.variant == POSTLAPSE_H_VARIANT && h.channels == 1 && h.rate == 8000 && h.samples == COUNT,
+    expect(h.refusal == 0 && h.version == 3 && h.variant == POSTLAPSE_VARIANT_H && h.channels == 1 && h.rate == 8000 && h.samples == COUNT,
            "the header");
 
     postlapse_header_answer cut = postlapse_inspect(stream, encoded.first - 1);
@@ -56,15 +56,15 @@ int main(void) {
 
     /* the second frame by hand: a fragment of version 3 needs nothing that came before */
     const uint8_t *fragment = stream + 16 + FRAGMENT;
-    postlapse_fragment_answer played = postlapse_decode_fragment(3, POSTLAPSE_H_VARIANT, 5, 6, fragment, FRAGMENT, part, 63);
+    postlapse_fragment_answer played = postlapse_decode_fragment(3, POSTLAPSE_VARIANT_H, 5, 6, fragment, FRAGMENT, part, 63);
     printf("fragment: %zu samples, state %d %zu\n", played.first, played.predictor, played.index);
     expect(played.refusal == 0 && played.first == 63 && played.predictor == 5 && played.index == 6, "the fragment");
     expect(memcmp(part, sound + 63, sizeof part) == 0, "the fragment's samples");
 
     /* the same bytes as a fragment of version 2, which goes on from a state and has no index byte: the state moves */
     postlapse_state state = {0, 0};
-    postlapse_answer legacy = postlapse_decode_fragment_lent(2, POSTLAPSE_H_VARIANT, &state, fragment, FRAGMENT - 1, part, 63);
-    played = postlapse_decode_fragment(2, POSTLAPSE_H_VARIANT, 0, 0, fragment, FRAGMENT - 1, part, 63);
+    postlapse_answer legacy = postlapse_decode_fragment_lent(2, POSTLAPSE_VARIANT_H, &state, fragment, FRAGMENT - 1, part, 63);
+    played = postlapse_decode_fragment(2, POSTLAPSE_VARIANT_H, 0, 0, fragment, FRAGMENT - 1, part, 63);
     printf("version 2: %zu samples, state %d %zu\n", legacy.first, state.predictor, state.index);
     expect(legacy.refusal == 0 && legacy.first == 63 && state.predictor == played.predictor && state.index == played.index,
            "the state lent and by value");

@@ -1,6 +1,7 @@
 //! A short tone: encoded, inspected, decoded, one fragment decoded by hand, and the sound written as a WAV file and read back.
 //! Prints what the calls answer; the exit status is 1 where an answer is not the expected one.
 
+#[path = "../../rust/postlapse.rs"]
 mod postlapse;
 
 use postlapse::{H, State};

@@ -14,7 +14,7 @@ mod paper;
 #[allow(dead_code)]
 mod print;
 #[allow(dead_code)]
-#[path = "../../examples/rust/postlapse.rs"]
+#[path = "../../rust/postlapse.rs"]
 mod postlapse;
 
 /// The reference, unchanged, as in main.rs.

@@ -16,7 +16,7 @@ mod memory;
 mod paper;
 mod pointers;
 #[allow(dead_code)]
-#[path = "../../examples/rust/postlapse.rs"]
+#[path = "../../rust/postlapse.rs"]
 mod postlapse;
 #[allow(dead_code)]
 mod print;
