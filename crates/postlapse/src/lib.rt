@@ -63,7 +63,7 @@ pub struct FragmentAnswer {
     pub index: usize,
 }
 
-// ---- the answers of the rooms below, as these structs
+// ---- the answers of the crates below, as these structs
 
 // A refusal.
 #[tactic(auto, unfolding(crate::specs::Answers::answer_of))]

@@ -1,4 +1,4 @@
-// The types of WAV files: refusals, chunks, and what a file says. This room is to WAV what `sqv4_format` is to SQV4: the rules of reading stand
+// The types of WAV files: refusals, chunks, and what a file says. This crate is to WAV what `sqv4_format` is to SQV4: the rules of reading stand
 // as definitions in specs/, and what is proved of them in proofs/.
 #![tactic(auto)]
 
