@@ -3,7 +3,7 @@
 
 ghost use Rattle.std.specs.Prelude.{◌≡◌, ◌++◌, ◌+◌, ◌-◌, ◌*◌, ◌/◌, ◌<◌, ◌≤◌, pos, length, take, drop, get_or};
 ghost use Rattle.lists.specs.Lists.{tabulate};
-ghost use Rattle.sqv4_format.specs.Layout.{fragment_size, header_bytes, frames};
+ghost use Rattle.sqv4_format.specs.Layout.{encoder_version, fragment_size, header_bytes, frames};
 ghost use Rattle.sqv4_format.specs.Encode.{fragment_for, header_written};
 ghost use Rattle.sqv4_format.specs.Answers.{AsEncoded};
 ghost use Rattle.encoder.specs.Loops.{put_after};
@@ -64,8 +64,8 @@ fn gather(pcm: &[i16], first: usize, channels: usize, channel: usize, n: usize) 
 // lent by its place, since a proof doesn't know what `chunks_exact_mut` leaves.
 fn put_fragments(coder: &Coder, pcm: &[i16], h: Header, out: &mut [u8])
     requires { (0 < h.channels) × (h ≡ header_written coder.now.settings pcm.now h.channels h.rate)
-        × (16 + frames h * h.channels * fragment_size 3 coder.now.settings.variant ≤ length out.old) }
-    ensures { out.new ≡ put_after (take 16 out.old) 16 (fragment_for coder.now.settings pcm.now h.channels) (fragment_size 3 coder.now.settings.variant) out.old (frames h * h.channels) }
+        × (16 + frames h * h.channels * fragment_size encoder_version coder.now.settings.variant ≤ length out.old) }
+    ensures { out.new ≡ put_after (take 16 out.old) 16 (fragment_for coder.now.settings pcm.now h.channels) (fragment_size encoder_version coder.now.settings.variant) out.old (frames h * h.channels) }
 {
     let channels = h.channels as usize;
     let size = h.coding().fragment_size();
@@ -93,7 +93,8 @@ pub fn encode(
 ) -> Result<usize, Error>
     ensures { AsEncoded settings pcm.now channels rate out.old result out.new }
 {
-    if !layout::channels_fit(sqv4_format::VERSION, channels) {
+    let version = layout::version_for(channels);
+    if !layout::channels_fit(version, channels) {
         return Err(Error::InvalidChannels(channels));
     }
     if rate == 0 {
@@ -107,7 +108,7 @@ pub fn encode(
         return Err(Error::TooManySamples);
     };
     let h = Header {
-        version: sqv4_format::VERSION,
+        version,
         variant: settings.variant,
         channels,
         rate,

@@ -9,7 +9,7 @@ use lib.ListN.{length, get_or, replicate, length-map}
 use borrow.Author.Tests.{ne_eqb}
 use Rattle.lists.proofs.ByIndex.{map_at}
 use Rattle.digits.specs.Digits.{number, digits}
-use Rattle.sqv4_format.specs.Layout.{payload_bytes, fragment_size}
+use Rattle.sqv4_format.specs.Layout.{encoder_version, payload_bytes, fragment_size}
 use Rattle.signed.specs.Signed.{is_neg, with_sign, on_magnitude}
 use Rattle.sqv4_format.specs.Gain.{pregained, peak, own_volume}
 use Rattle.sqv4_format.specs.Encode.{best_trial, fragment_bytes, encoded_fragment}
@@ -49,7 +49,7 @@ unfolding digits
 two_zeros n = let e : 2 + n ≡ suc (suc n) = omega arith in rw e
 
 module _ (k : Settings) (samples xs : List ℤ) (v : ℕ) (ex : xs ≡ map (pregained k.gain) samples) (ev : v ≡ own_volume xs) where
-  pub silent_bytes : (n : ℕ) {out : List ℕ} → out ≡ replicate n 0 → n ≡ fragment_size 3 k.variant → v ≡ 0 → out ≡ encoded_fragment k samples
+  pub silent_bytes : (n : ℕ) {out : List ℕ} → out ≡ replicate n 0 → n ≡ fragment_size encoder_version k.variant → v ≡ 0 → out ≡ encoded_fragment k samples
   unfolding encoded_fragment fragment_bytes digits number
   silent_bytes n eo en e0 =
       let z : own_volume xs ≡ 0 = rw (← ev) e0 in

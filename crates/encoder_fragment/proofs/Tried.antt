@@ -7,6 +7,7 @@ use native.Mathlib.Omega.{arith}
 use lib.IntN.{ℤ, pos}
 use lib.ListN.{length, get_or, set, take, length-set}
 use lib.Seq.{take-suc-set}
+use Rattle.sqv4_format.specs.Layout.{encoder_version}
 use Rattle.sqv4_format.specs.Step.{stepped}
 use Rattle.sqv4_format.specs.Gain.{normalised}
 use Rattle.sqv4_format.specs.Decode.{fragment_start}
@@ -26,7 +27,7 @@ module _ (k : Settings) (v : ℕ) (xs : List ℤ) (index : ℕ) where
   tried_none e h = record { state = e; room = h; coded = refl }
 
   pub tried_more : {i : ℕ} {s t : State} {codes : List ℕ} {code : ℕ} {y : ℤ} → Tried i s codes → i < 63
-      → y ≡ normalised v (get_or xs i (pos 0)) → code ≡ code_for k.variant s y → t ≡ stepped 3 k.variant s code
+      → y ≡ normalised v (get_or xs i (pos 0)) → code ≡ code_for k.variant s y → t ≡ stepped encoder_version k.variant s code
       → Tried (i + 1) t (set codes i code)
   unfolding trial_to trial_step
   tried_more {i} {s} {t} {codes} {code} {y} d l ey ec et =

@@ -3,7 +3,7 @@
 
 ghost use Rattle.std.specs.Prelude.{◌≡◌, ◌∷◌, map, ℕ, ℤ, ◌-◌, ◌<◌, ◌≤◌, ◌^◌, length, get_or, take};
 ghost use Rattle.digits.specs.Digits.{packed};
-ghost use Rattle.sqv4_format.specs.Layout.{fragment_size};
+ghost use Rattle.sqv4_format.specs.Layout.{encoder_version, fragment_size};
 ghost use Rattle.sqv4_format.specs.Gain.{pregained, normalised};
 ghost use Rattle.sqv4_format.specs.Encode.{trial_to, best_trial, fragment_bytes, encoded_fragment};
 
@@ -55,7 +55,7 @@ fn put_fragment(out: &mut [u8], volume: u8, index: u8, codes: Codes)
 // Internal: the bytes of a fragment that is not silent: of the trials from 0..=88 the one with the least sum, the lowest start at
 // equality.
 fn put_best(fragment: Fragment, out: &mut [u8])
-    requires { length out.old ≡ fragment_size 3 fragment.coder.now.settings.variant }
+    requires { length out.old ≡ fragment_size encoder_version fragment.coder.now.settings.variant }
     ensures { out.new ≡ fragment_bytes fragment.entry.coder.now.settings.variant fragment.entry.volume (best_trial fragment.entry.coder.now.settings fragment.entry.volume fragment.entry.xs.now) }
 {
     let count = fragment.xs.len();
@@ -71,7 +71,7 @@ fn put_best(fragment: Fragment, out: &mut [u8])
 // Internal: the fragment of at most 63 samples. It fills `out`. Samples that are all 0 take the short way; others can be silent
 // after pre-gain.
 pub fn encode_fragment(coder: &Coder, samples: &[i16], out: &mut [u8])
-    requires { (length samples.now ≤ 63) × (length out.old ≡ fragment_size 3 coder.now.settings.variant) }
+    requires { (length samples.now ≤ 63) × (length out.old ≡ fragment_size encoder_version coder.now.settings.variant) }
     ensures { out.new ≡ encoded_fragment coder.now.settings samples.now }
 {
     if gain::peak_of(samples) == 0 {

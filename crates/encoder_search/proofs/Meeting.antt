@@ -10,6 +10,7 @@ use lib.Seq.{get_or-take}
 use Rattle.lists.specs.Lists.{tabulate}
 use Rattle.lists.proofs.ByIndex.{get_d_tabulate, fill_next, map_at}
 use Rattle.signed.proofs.Raised.{raised-same}
+use Rattle.sqv4_format.specs.Layout.{encoder_version}
 use Rattle.sqv4_format.specs.Step.{stepped}
 use Rattle.sqv4_format.specs.Gain.{normalised, output_gain}
 use Rattle.sqv4_format.specs.Decode.{InRange}
@@ -37,7 +38,7 @@ module _ (k : Settings) (v : ℕ) (xs : List ℤ) where
   trial_range : (index n : ℕ) → InRange (trial_to k v xs index n).state
   unfolding trial_to trial_step
   trial_range index zero = start_range index
-  trial_range index (suc n) = stepped_range 3 k.variant (trial_to k v xs index n).state _
+  trial_range index (suc n) = stepped_range encoder_version k.variant (trial_to k v xs index n).state _
 
   -- j samples on
   alike : (a b i : ℕ) → (trial_to k v xs a i).state ≡ (trial_to k v xs b i).state → (j : ℕ)
@@ -72,8 +73,8 @@ module _ (k : Settings) (v : ℕ) (xs : List ℤ) where
     -- a sample more, where the targets are the samples normalised
     pub traced_next : {i : ℕ} {s t : State} {sum q key' : ℕ} {trace : List Mark} {targets : List ℤ} → Traced index i s sum trace
         → i < length xs → length xs ≤ 63 → targets ≡ map (normalised v) xs → key' ≡ key s
-        → t ≡ stepped 3 k.variant s (code_for k.variant s (get_or targets i (pos 0)))
-        → q ≡ square (nat_abs (get_or xs i (pos 0) -ℤ output_gain 3 v t.predictor)) → q ≤ 4294967296
+        → t ≡ stepped encoder_version k.variant s (code_for k.variant s (get_or targets i (pos 0)))
+        → q ≡ square (nat_abs (get_or xs i (pos 0) -ℤ output_gain encoder_version v t.predictor)) → q ≤ 4294967296
         → Traced index (i + 1) t (sum + q) (set trace i (record { sum = sum; key = key' }))
     traced_next {i} d h few et ek es eq hq =
         let y = ap (λ (l : List ℤ). get_or l i (pos 0)) et ∙ map_at (normalised v) xs i (pos 0) (pos 0) h in

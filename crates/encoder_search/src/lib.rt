@@ -3,6 +3,7 @@
 
 ghost use Rattle.std.specs.Prelude.{◌≡◌, map, ◌+◌, ◌<◌, ◌≤◌, true, nat_abs, ◌-ℤ◌, length, MatchOption};
 ghost use Rattle.std.specs.Int.Signed.{mag};
+ghost use Rattle.sqv4_format.specs.Layout.{encoder_version};
 ghost use Rattle.sqv4_format.specs.Gain.{normalised, output_gain};
 ghost use Rattle.sqv4_format.specs.Encode.{square, best_trial};
 ghost use Rattle.encoder_search.specs.Search.{key, Ran, Beaten, Beats, tie, start_at, Tried};
@@ -52,7 +53,7 @@ struct Best {
 // Internal: the square of the distance from a pre-gained sample to the sample that a predictor gives, which comes in 32 bits, as in a state.
 pub fn squared_error(sample: i16, predictor: i32, volume: u8) -> u64
     requires { mag predictor ≤ 32767 }
-    ensures { (result ≡ square (nat_abs (sample -ℤ output_gain 3 volume predictor))) × (result ≤ 4294967296) }
+    ensures { (result ≡ square (nat_abs (sample -ℤ output_gain encoder_version volume predictor))) × (result ≤ 4294967296) }
 {
     let x = signed::raise(sample as i32);
     let d = x.abs_diff(gain::raised_output(predictor, volume)) as u64;

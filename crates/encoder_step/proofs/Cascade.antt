@@ -9,6 +9,7 @@ use mir.Syntax.{w32}
 use mir.Val.{to_z, of_z}
 use Rattle.signed.proofs.Laws.{back32, clamp_to_is, clamp_fits}
 use Rattle.signed.proofs.Raised.{lower_is, raised-same, raised_less, raised-apart, raised_down, raised_up}
+use Rattle.sqv4_format.specs.Layout.{encoder_version}
 use Rattle.sqv4_format.specs.Tables.{h_index_adjust}
 use Rattle.sqv4_format.specs.Step.{step_at, bit_set, part, h_size, difference, unclamped_predictor, unclamped_index, stepped}
 use Rattle.sqv4_format.specs.Decode.{InRange}
@@ -107,7 +108,7 @@ module _ (s : State) (input : ℤ) (hs : InRange s) (hi : mag input ≤ 32767) (
   pub h_stepped : (q : ℤ) (i u by : ℕ) → (x < p → u ≡ x + last - t / 8) → (p ≤ x → u ≡ min (x + t / 8 - last) 65535)
       → raised q ≡ u → mag q ≤ 32767 → i ≡ cond (leb t d) (min (s.index + by) 88) (s.index - 1)
       → by ≡ 2 + cond (leb (t / 2) half) 4 0 + cond (leb (t / 4) quarter) 2 0
-      → ◌≡◌ {A = State} (record { predictor = q; index = i }) (stepped 3 H s (h_code s input))
+      → ◌≡◌ {A = State} (record { predictor = q; index = i }) (stepped encoder_version H s (h_code s input))
   unfolding stepped unclamped_predictor unclamped_index difference
   h_stepped q i u by low high er hq ei eb =
       rw (code_is, ← et, told.eight, told.adjust, index_moved (leb t d) s.index _ hs.index, ei, eb)

@@ -6,7 +6,7 @@ use Rattle.lists.proofs.Least.{least_at}
 use Rattle.signed.specs.Signed.{raised}
 use Rattle.signed.proofs.Raised.{raised-same, raised-apart, raised_down, raised_up}
 use Rattle.sqv4_format.specs.Tables.{l_index_adjust, l_levels, l_plus_levels}
-use Rattle.sqv4_format.specs.Layout.{bits}
+use Rattle.sqv4_format.specs.Layout.{encoder_version, bits}
 use Rattle.sqv4_format.specs.Step.{step_at, bit_set, l_size, level_of, unclamped_predictor, unclamped_index, stepped}
 use Rattle.sqv4_format.specs.Decode.{InRange}
 use Rattle.sqv4_format.specs.Encode.{Choice, choice, l_code}
@@ -120,7 +120,7 @@ low_bit j h = let e : j / 4 % 2 ≡ 0 = omega arith in rw e
 high_bit : (j : ℕ) → j < 4 → bit_set (4 + j) 4 ≡ true
 high_bit j h = let e : (4 + j) / 4 % 2 ≡ 1 = omega arith in rw e
 
-low_level : (variant : Variant) (j : ℕ) → level_of 3 variant (4 + j) ≡ level_of 3 variant j
+low_level : (variant : Variant) (j : ℕ) → level_of encoder_version variant (4 + j) ≡ level_of encoder_version variant j
 unfolding level_of
 low_level variant j = let e : (4 + j) % 4 ≡ j % 4 = omega arith in rw e
 
@@ -130,24 +130,24 @@ module _ (variant : Variant) (s : State) (input : ℤ) (three : bits variant ≡
   size = size_at variant t
 
   landing : ℕ → ℕ
-  landing code = raised (stepped 3 variant s code).predictor
+  landing code = raised (stepped encoder_version variant s code).predictor
 
   up_landing : (j : ℕ) → j < 4 → landing j ≡ min (p + size j) 65535
   unfolding landing stepped unclamped_predictor
   up_landing j h =
-      rw (difference_three 3 variant (step_at s.index) j three, low_bit j h, raised_up s.predictor _ hs.predictor, ← ep, ← et)
+      rw (difference_three encoder_version variant (step_at s.index) j three, low_bit j h, raised_up s.predictor _ hs.predictor, ← ep, ← et)
 
   down_landing : (j : ℕ) → j < 4 → landing (4 + j) ≡ p - size j
   unfolding landing stepped unclamped_predictor
   down_landing j h =
-      rw (difference_three 3 variant (step_at s.index) (4 + j) three, high_bit j h, low_level variant j, raised_down s.predictor _ hs.predictor, ← ep, ← et)
+      rw (difference_three encoder_version variant (step_at s.index) (4 + j) three, high_bit j h, low_level variant j, raised_down s.predictor _ hs.predictor, ← ep, ← et)
 
   abbrev cost : ℕ → ℕ
   cost code = (choice variant s input code).error
 
   cost_is : (code : ℕ) → cost code ≡ apart x (landing code)
   unfolding landing
-  cost_is code = rw (raised-apart input _ hi (stepped_range 3 variant s code).predictor, ← ex)
+  cost_is code = rw (raised-apart input _ hi (stepped_range encoder_version variant s code).predictor, ← ex)
 
   -- ---- the code that is chosen, and the state after it
 
@@ -161,7 +161,7 @@ module _ (variant : Variant) (s : State) (input : ℤ) (three : bits variant ≡
   some = (grow variant t three low).some
 
   abbrev Stepped : ℤ → ℕ → Type 0
-  Stepped q i = ◌≡◌ {A = State} (record { predictor = q; index = i }) (stepped 3 variant s (l_code variant s input))
+  Stepped q i = ◌≡◌ {A = State} (record { predictor = q; index = i }) (stepped encoder_version variant s (l_code variant s input))
 
   code_is : (code : ℕ) → Lowest cost code → l_code variant s input ≡ code
   unfolding l_code
@@ -186,7 +186,7 @@ module _ (variant : Variant) (s : State) (input : ℤ) (three : bits variant ≡
       unfolding landing stepped unclamped_predictor unclamped_index
       ends code em l e =
           rw (code_is code l, adjustment_three variant code three, em, adjusted m k.within, index_moved (ltb 0 m) s.index (2 * m) hs.index, ei)
-          (cc (raised-same q (stepped 3 variant s code).predictor hq (stepped_range 3 variant s code).predictor (eq ∙ e)))
+          (cc (raised-same q (stepped encoder_version variant s code).predictor hq (stepped_range encoder_version variant s code).predictor (eq ∙ e)))
 
       stepped_down : x < p → Stepped q i
       stepped_down l = go (dec_lt v (2 * r + (65535 - p)))

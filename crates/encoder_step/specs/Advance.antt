@@ -1,12 +1,13 @@
 -- The sizes of differences and where they land. Assumes nothing.
 use Rattle.std.specs.Prelude.{◌≡◌, ℕ, ◌+◌, ◌-◌, ◌/◌, ◌%◌, ◌<◌, ◌≤◌, min}
+use Rattle.sqv4_format.specs.Layout.{encoder_version}
 use Rattle.sqv4_format.specs.Step.{step_at, l_size, level_of}
 use Rattle.sqv4_format.specs.declared.Variant.{Variant}
 use Rattle.encoder_step.specs.declared.Sizes.{Sizes}
 
 -- the size of the difference of a code at a step, by the code's two low bits
 abbrev pub size_at : Variant → ℕ → ℕ → ℕ
-size_at variant step j = l_size (level_of 3 variant j) step
+size_at variant step j = l_size (level_of encoder_version variant j) step
 
 -- the sizes of a variant, a row of four for each index
 abbrev pub size_entry : Variant → ℕ → ℕ

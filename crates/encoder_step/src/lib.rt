@@ -6,7 +6,7 @@
 ghost use Rattle.std.specs.Prelude.{◌≡◌, ◌+◌, ◌-◌, ◌*◌, ◌<◌, ◌≤◌, min, if◌then◌else◌};
 ghost use Rattle.lists.specs.Lists.{tabulate};
 ghost use Rattle.signed.specs.Signed.{raised};
-ghost use Rattle.sqv4_format.specs.Layout.{bits};
+ghost use Rattle.sqv4_format.specs.Layout.{encoder_version, bits};
 ghost use Rattle.sqv4_format.specs.Step.{step_at, stepped};
 ghost use Rattle.sqv4_format.specs.Encode.{h_code, l_code, code_for};
 ghost use Rattle.sqv4_format.specs.declared.Variant.TheVariants as variants;
@@ -98,7 +98,7 @@ impl Pair {
 
 // The state after the H code for a normalised sample, without the code.
 fn h_next(state: Reached, input: i16) -> Reached
-    ensures { result.state ≡ stepped 3 variants.H state.state (h_code state.state input) }
+    ensures { result.state ≡ stepped encoder_version variants.H state.state (h_code state.state input) }
 {
     let index = state.index();
     let step = adpcm::step_size(index);
@@ -183,7 +183,7 @@ impl Coder {
     // nearest is the last that lies, together with the one before it, short of twice the distance.
     fn l_next(&self, state: Reached, input: i16) -> Reached
         requires { bits self.now.settings.variant ≡ 3 }
-        ensures { result.state ≡ stepped 3 self.now.settings.variant state.state (l_code self.now.settings.variant state.state input) }
+        ensures { result.state ≡ stepped encoder_version self.now.settings.variant state.state (l_code self.now.settings.variant state.state input) }
     {
         let index = state.index();
         let pair = Pair::of(state, input);
@@ -213,7 +213,7 @@ impl Coder {
     // The state after the code for a normalised sample. The two ways share no step, and the variant is known only at run time: hence a
     // match. A closure or a trait object would be called at each sample and be no plainer.
     pub fn next(&self, state: Reached, input: i16) -> Reached
-        ensures { result.state ≡ stepped 3 self.now.settings.variant state.state (code_for self.now.settings.variant state.state input) }
+        ensures { result.state ≡ stepped encoder_version self.now.settings.variant state.state (code_for self.now.settings.variant state.state input) }
     {
         match self.settings.variant {
             Variant::H => h_next(state, input),

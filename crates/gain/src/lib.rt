@@ -5,6 +5,7 @@
 ghost use Rattle.std.specs.Prelude.{◌≡◌, ◌+◌, ◌*◌, ◌/◌, ◌<◌, ◌≤◌, length, unsigned_abs};
 ghost use Rattle.std.specs.Int.Signed.{mag};
 ghost use Rattle.signed.specs.Signed.{is_neg, with_sign, raised};
+ghost use Rattle.sqv4_format.specs.Layout.{encoder_version};
 ghost use Rattle.sqv4_format.specs.Gain.{pregained, peak, volume_of, own_volume, normalised, output_gain};
 ghost use Rattle.gain.specs.Rounding.{rounding};
 
@@ -102,7 +103,7 @@ pub fn output_gain(coding: Coding, reconstructed: i16, volume: u8) -> i16
 // predictor comes in 32 bits, as in a state.
 pub fn raised_output(reconstructed: i32, volume: u8) -> u32
     requires { mag reconstructed ≤ 32767 }
-    ensures { (result ≡ raised (output_gain 3 volume reconstructed)) × (result ≤ 65535) }
+    ensures { (result ≡ raised (output_gain encoder_version volume reconstructed)) × (result ≤ 65535) }
 {
     let v = volume as u32;
     (signed::raise(reconstructed) * v + 32768 * (255 - v) + 127) / 255

@@ -2,7 +2,7 @@
 #![tactic(auto)]
 
 ghost use Rattle.std.specs.Prelude.{◌≡◌, ◌-◌, ◌*◌, ◌/◌, ◌%◌, ◌^◌, ◌≤◌, ◌<◌, length};
-ghost use Rattle.sqv4_format.specs.Layout.{channels_fit, frames, count, stream_length, fragment_at_place};
+ghost use Rattle.sqv4_format.specs.Layout.{version_for, channels_fit, frames, count, stream_length, fragment_at_place};
 
 use sqv4_format::{Coded, Header};
 
@@ -55,6 +55,13 @@ pub fn channels_fit(version: u8, channels: u8) -> bool
     ensures { result ≡ channels_fit version channels }
 {
     channels == 1 || channels == 2
+}
+
+// The version that the encoder writes for a channel count.
+pub fn version_for(channels: u8) -> u8
+    ensures { result ≡ version_for channels }
+{
+    sqv4_format::VERSION
 }
 
 // A file with its header, which has channels and says how long the file is.

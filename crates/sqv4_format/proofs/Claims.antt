@@ -14,7 +14,7 @@ use Rattle.outcome.specs.Tests.{gives, accepts, refuses}
 use Rattle.outcome.proofs.Tests.{gives_means, accepts_means, refuses_means}
 use Rattle.signed.specs.Signed.{on_magnitude}
 use Rattle.signed.proofs.Laws.{quot_on}
-use Rattle.sqv4_format.specs.Layout.{anew, variant_byte, frames, stream_length, fragment_at}
+use Rattle.sqv4_format.specs.Layout.{encoder_version, anew, variant_byte, frames, stream_length, fragment_at}
 use Rattle.sqv4_format.specs.Step.{stepped}
 use Rattle.sqv4_format.specs.Gain.{nearest, Nearest, Cut, pregained, own_volume, normalised, output_gain}
 use Rattle.sqv4_format.specs.Decode.{zero_state, InRange, state_before, decoded, fragment_call}
@@ -119,7 +119,7 @@ volume_silence = proofs.Gain.silence
 -- any pre-gain, with the fragment's own volume
 pub gain_moves : (g : ℕ) (samples : List ℤ) (i : ℕ) → g ≤ 255 → ((j : ℕ) → mag (get_or samples j (pos 0)) ≤ 32767) → i < length samples
     → nat_abs
-    (output_gain 3 (own_volume (map (pregained g) samples)) (normalised (own_volume (map (pregained g) samples)) (pregained g (get_or samples i (pos 0))))
+    (output_gain encoder_version (own_volume (map (pregained g) samples)) (normalised (own_volume (map (pregained g) samples)) (pregained g (get_or samples i (pos 0))))
     -ℤ pregained g (get_or samples i (pos 0)))
     ≤ 1
 gain_moves = proofs.Gain.gain_stage

@@ -10,6 +10,7 @@ use lib.Signed.{mag}
 use lib.ListN.{length, get_or, length-map, get_or-map}
 use Rattle.signed.specs.Signed.{is_neg, with_sign, on_magnitude, clamp16}
 use Rattle.signed.proofs.Laws.{on_pos, on_neg, mag_on, clamp_pos, clamp_neg}
+use Rattle.sqv4_format.specs.Layout.{encoder_version}
 use Rattle.sqv4_format.specs.Gain.{nearest, Nearest, Cut, pregained, peak, volume_of, own_volume, normalised, output_gain}
 
 -- ---- rounding, of magnitudes
@@ -87,14 +88,14 @@ near_full : (n m : ℕ) → Near n (m * 255) 255 → n ≡ m
 near_full n m r = omega (arith, r.above, r.below)
 
 -- output gain of a negative number whose magnitude comes back as m
-gain_neg : (v n m : ℕ) → nearest (n * v) 255 ≡ suc m → output_gain 3 v (neg_ℤ (pos n)) ≡ negsuc m
+gain_neg : (v n m : ℕ) → nearest (n * v) 255 ≡ suc m → output_gain encoder_version v (neg_ℤ (pos n)) ≡ negsuc m
 unfolding output_gain
 gain_neg v zero m e = let z : ⊥ = omega arith in absurd z
 gain_neg v (suc n) m e = on_neg (λ m. nearest (m * v) 255) n ∙ ap (λ x. neg_ℤ (pos x)) e
 
 module _ (rule : ℕ → ℕ → ℕ) (near : (a b : ℕ) → 0 < b → Near (rule a b) a b) where
   gain_exact : (top : ℕ) (x : ℤ) → nat_abs x ≤ top → mag x ≤ 32767 → 0 < volume_of top
-      → output_gain 3 (volume_of top) (clamp16 (on_magnitude (λ m. rule (m * 255) (volume_of top)) x)) ≡ x
+      → output_gain encoder_version (volume_of top) (clamp16 (on_magnitude (λ m. rule (m * 255) (volume_of top)) x)) ≡ x
   unfolding output_gain
   gain_exact top (pos m) h k hv =
       let v : ℕ = volume_of top in
@@ -117,11 +118,11 @@ module _ (rule : ℕ → ℕ → ℕ) (near : (a b : ℕ) → 0 < b → Near (ru
 
 -- 01's rule, on a fragment's own samples and volume
 own_exact : (xs : List ℤ) (i : ℕ) → i < length xs → mag (get_or xs i (pos 0)) ≤ 32767
-    → output_gain 3 (own_volume xs) (normalised (own_volume xs) (get_or xs i (pos 0))) ≡ get_or xs i (pos 0)
+    → output_gain encoder_version (own_volume xs) (normalised (own_volume xs) (get_or xs i (pos 0))) ≡ get_or xs i (pos 0)
 unfolding normalised output_gain on_magnitude is_neg with_sign clamp16
 own_exact xs i h k = go (dec_lt 0 (own_volume xs))
   where
-    go : Dec (0 < own_volume xs) → output_gain 3 (own_volume xs) (normalised (own_volume xs) (get_or xs i (pos 0))) ≡ get_or xs i (pos 0)
+    go : Dec (0 < own_volume xs) → output_gain encoder_version (own_volume xs) (normalised (own_volume xs) (get_or xs i (pos 0))) ≡ get_or xs i (pos 0)
     go (yes l) =
         gain_exact nearest (λ a b hb. let n = nearest_is a b hb in record { above = n.above; below = omega (arith, n.below) })
         (peak xs (length xs)) (get_or xs i (pos 0)) (peak_covers xs (length xs) i h) k l
@@ -140,12 +141,12 @@ pregained_zero g = on_pos (λ m. m * g / 255) 0 ∙ rw (zero-mul, zero-div)
 
 -- 01's sentence: normalising and output gain together, without the codes, move a pre-gained sample of that fragment by at most 1
 pub gain_stage : (g : ℕ) (samples : List ℤ) (i : ℕ) → g ≤ 255 → ((j : ℕ) → mag (get_or samples j (pos 0)) ≤ 32767) → i < length samples
-    → nat_abs (output_gain 3 (own_volume (map (pregained g) samples)) (normalised (own_volume (map (pregained g) samples)) (pregained g (get_or samples i (pos 0))))
+    → nat_abs (output_gain encoder_version (own_volume (map (pregained g) samples)) (normalised (own_volume (map (pregained g) samples)) (pregained g (get_or samples i (pos 0))))
     -ℤ pregained g (get_or samples i (pos 0))) ≤ 1
 gain_stage g samples i hg fit hi =
     let xs = map (pregained g) samples in
     let x = pregained g (get_or samples i (pos 0)) in
     let at : get_or xs i (pos 0) ≡ x = ap (get_or xs i) (sym (pregained_zero g)) ∙ get_or-map (pregained g) samples i (pos 0) in
-    let exact : output_gain 3 (own_volume xs) (normalised (own_volume xs) x) ≡ x =
+    let exact : output_gain encoder_version (own_volume xs) (normalised (own_volume xs) x) ≡ x =
     rw at at (own_exact xs i (rw length-map hi) (rw at (pregained-fits g (get_or samples i (pos 0)) hg (fit i)))) in
     rw (exact, +ℤ_invr x) (omega arith)

@@ -11,7 +11,7 @@ use lib.ListN.{length, get_or}
 use Rattle.outcome.specs.Outcome.{Outcome, result, refused, Refuses}
 use Rattle.outcome.proofs.Laws.{one_way}
 use Rattle.signed.specs.Signed.{on_magnitude, with_sign, is_neg}
-use Rattle.sqv4_format.specs.Layout.{whole_frame, frames, count, stream_length, fragment_at}
+use Rattle.sqv4_format.specs.Layout.{encoder_version, whole_frame, frames, count, stream_length, fragment_at}
 use Rattle.sqv4_format.specs.Gain.{nearest, pregained, own_volume, normalised, output_gain}
 use Rattle.sqv4_format.specs.Decode.{zero_state, channel_sample, decoded, fragment_call}
 use Rattle.sqv4_format.specs.Encode.{channel, header_written, encoded, encode_call}
@@ -166,7 +166,7 @@ limits = negsuc 32767 ∷ pos 32767 ∷ pos 1 ∷ []
 
 pub gain_at_the_limits : (i : ℕ) → i < 3
     → nat_abs
-    (output_gain 3 (own_volume (map (pregained 255) limits)) (normalised (own_volume (map (pregained 255) limits)) (pregained 255 (get_or limits i (pos 0))))
+    (output_gain encoder_version (own_volume (map (pregained 255) limits)) (normalised (own_volume (map (pregained 255) limits)) (pregained 255 (get_or limits i (pos 0))))
     -ℤ pregained 255 (get_or limits i (pos 0)))
     ≤ 1
 gain_at_the_limits i l = claims.gain_moves 255 limits i (omega arith) fits l

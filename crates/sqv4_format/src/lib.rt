@@ -3,7 +3,7 @@
 #![tactic(auto)]
 
 ghost use Rattle.std.specs.Prelude.{◌≡◌, ◌≤◌, true, false, length, MatchOption};
-ghost use Rattle.sqv4_format.specs.Layout.{known_version, anew, bits, payload_bytes, prefix, fragment_size, frame_samples, volume_byte, index_byte, payload, variant_byte, variant_of};
+ghost use Rattle.sqv4_format.specs.Layout.{encoder_version, known_version, anew, bits, payload_bytes, prefix, fragment_size, frame_samples, volume_byte, index_byte, payload, variant_byte, variant_of};
 ghost use Rattle.sqv4_format.specs.Decode.{zero_state, fragment_start, InRange};
 ghost use Rattle.sqv4_format.specs.Answers as answers;
 
@@ -106,7 +106,7 @@ pub struct Coding {
 impl Coding {
     // How the encoder codes a variant.
     pub fn written(variant: Variant) -> Coding
-        ensures { result ≡ record { version = 3; variant = variant } }
+        ensures { result ≡ record { version = encoder_version; variant = variant } }
     {
         Coding {
             version: VERSION,

@@ -6,7 +6,7 @@ use native.Mathlib.Omega.{arith}
 use lib.ListN.{length}
 use Rattle.sqv4_format.proofs.Sizes.{channels_few}
 use Rattle.sqv4_format.specs.Answers.{number_of, values_of}
-use Rattle.sqv4_format.specs.Layout.{channels_fit}
+use Rattle.sqv4_format.specs.Layout.{version_for, channels_fit}
 use Rattle.sqv4_format.specs.Encode.{header_written, too_many, encode_call}
 use Rattle.sqv4_format.specs.declared.Error.TheVariants as E
 use Rattle.outcome.proofs.Flags.{via}
@@ -16,26 +16,32 @@ use Rattle.encoder.proofs.encode.Goals as goal
 use Rattle.encoder.proofs.encode.Goals.{Else-rate-eq0}
 
 -- past the check 1
-fit : (c : Else-rate-eq0) → channels_fit 3 c.args.channels ≡ true
-fit c = via _ _ _ c.channels_fit.ensures c.if-not-channels_fit.false
+fit : (c : Else-rate-eq0) → channels_fit (version_for c.args.channels) c.args.channels ≡ true
+fit c = via _ _ _ (rw c.version_for-version.ensures at c.channels_fit.ensures) c.if-not-channels_fit.false
 
 few : (c : Else-rate-eq0) → (0 < c.args.channels) × (c.args.channels ≤ 2)
 few c = channels_few _ _ (fit c)
 
 pub returns-then-not-channels_fit : goal.returns-then-not-channels_fit
 unfolding encode_call number_of values_of
-returns-then-not-channels_fit c = as_refused _ _ _ _ _ (E.InvalidChannels _) (search checks depth 12)
+returns-then-not-channels_fit c =
+    let fits = rw c.version_for-version.ensures at c.channels_fit.ensures in
+    as_refused _ _ _ _ _ (E.InvalidChannels _) (search checks depth 12)
 
 pub returns-then-rate-eq0 : goal.returns-then-rate-eq0
 unfolding encode_call number_of values_of
-returns-then-rate-eq0 c = as_refused _ _ _ _ _ E.ZeroSampleRate (search checks depth 12)
+returns-then-rate-eq0 c =
+    let fits = rw c.version_for-version.ensures at c.channels_fit.ensures in
+    as_refused _ _ _ _ _ E.ZeroSampleRate (search checks depth 12)
 
 pub nonzero_rem-pcm : goal.nonzero_rem-pcm
 nonzero_rem-pcm c = (few c).0
 
 pub returns-then-pcm-count-ne0 : goal.returns-then-pcm-count-ne0
 unfolding encode_call number_of values_of
-returns-then-pcm-count-ne0 c = as_refused _ _ _ _ _ E.MisalignedInterleavedSamples (search checks depth 12)
+returns-then-pcm-count-ne0 c =
+    let fits = rw c.version_for-version.ensures at c.channels_fit.ensures in
+    as_refused _ _ _ _ _ E.MisalignedInterleavedSamples (search checks depth 12)
 
 pub nonzero_div-pcm : goal.nonzero_div-pcm
 nonzero_div-pcm c = (few (goal.at.nonzero_div-pcm c).Else-rate-eq0).0
@@ -43,18 +49,21 @@ nonzero_div-pcm c = (few (goal.at.nonzero_div-pcm c).Else-rate-eq0).0
 pub returns-in_default : goal.returns-in_default
 unfolding encode_call number_of values_of too_many
 returns-in_default c =
+    let fits = rw c.version_for-version.ensures at c.channels_fit.ensures in
     let many : 4294967295 < length c.args.pcm.now / c.args.channels = omega (arith, c.in_default.ensures) in
     as_refused _ _ _ _ _ E.TooManySamples (search checks depth 12)
 
 pub returns-then-out-needed : goal.returns-then-out-needed
 unfolding header_written
-returns-then-out-needed c = as_refused _ _ _ _ _ (E.OutputTooShort _) (too_short c.args.settings _ _ _ _ (fit (goal.at.returns-then-out-needed c).Else-rate-eq0) c.if-rate-eq0.false c.if-pcm-count-ne0.false (omega (arith, c.in-Ok.ensures.0)) _ (rw c.in-Ok.ensures.1 at c.stream_length-needed.ensures) c.if-out-needed.true)
+returns-then-out-needed c = as_refused _ _ _ _ _ (E.OutputTooShort _) (too_short c.args.settings _ _ _ _ (fit (goal.at.returns-then-out-needed c).Else-rate-eq0) c.if-rate-eq0.false c.if-pcm-count-ne0.false (omega (arith, c.in-Ok.ensures.0)) _ (rw (c.in-Ok.ensures.1, c.version_for-version.ensures) at c.stream_length-needed.ensures) c.if-out-needed.true)
 
 pub put_fragments-requires : goal.put_fragments-requires
 unfolding header_written
 put_fragments-requires c =
-    ((few (goal.at.put_fragments-requires c).Else-rate-eq0).0, rw (c.new.ensures, c.in-Ok.ensures.1) refl, rw c.new.ensures (headed_length _ c.args.out.now _ _ c.put_header.ensures c.stream_length-needed.ensures c.if-out-needed.false))
+    let v = c.version_for-version.ensures in
+    let headed = headed_length _ c.args.out.now _ _ (rw v at c.put_header.ensures) (rw v at c.stream_length-needed.ensures) c.if-out-needed.false in
+    ((few (goal.at.put_fragments-requires c).Else-rate-eq0).0, rw (c.new.ensures, c.in-Ok.ensures.1, v) refl, rw (c.new.ensures, v) headed)
 
 pub returns : goal.returns
 unfolding header_written
-returns c = as_written _ _ _ _ _ _ _ _ _ (long_enough c.args.settings _ _ _ _ (fit (goal.at.returns c).Else-rate-eq0) c.if-rate-eq0.false c.if-pcm-count-ne0.false (omega (arith, c.in-Ok.ensures.0)) _ (rw c.in-Ok.ensures.1 at c.stream_length-needed.ensures) c.if-out-needed.false) (rw c.in-Ok.ensures.1 refl) c.stream_length-needed.ensures c.put_header.ensures (rw (c.new.ensures, c.in-Ok.ensures.1) at c.put_fragments.ensures)
+returns c = as_written _ _ _ _ _ _ _ _ _ (long_enough c.args.settings _ _ _ _ (fit (goal.at.returns c).Else-rate-eq0) c.if-rate-eq0.false c.if-pcm-count-ne0.false (omega (arith, c.in-Ok.ensures.0)) _ (rw (c.in-Ok.ensures.1, c.version_for-version.ensures) at c.stream_length-needed.ensures) c.if-out-needed.false) (rw (c.in-Ok.ensures.1, c.version_for-version.ensures) refl) c.stream_length-needed.ensures c.put_header.ensures (rw (c.new.ensures, c.in-Ok.ensures.1, c.version_for-version.ensures) at c.put_fragments.ensures)

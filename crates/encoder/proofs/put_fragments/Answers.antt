@@ -4,13 +4,13 @@ use native.Mathlib.Nat.{mod-lt}
 use native.Mathlib.Omega.{arith}
 use borrow.Author.Rules.{rules}
 use lib.ListN.{length, length-take, length-drop}
-use Rattle.sqv4_format.specs.Layout.{fragment_size, frames}
+use Rattle.sqv4_format.specs.Layout.{encoder_version, fragment_size, frames}
 use Rattle.encoder.proofs.EncodeLoop.{writing_none, writing_lent, length_writing, written_size, written_frames, written_count}
 use Rattle.layout.proofs.Places.{frame_of_lem, gather_room, spot}
 use Rattle.encoder.proofs.put_fragments.Goals as goal
 use Rattle.encoder.proofs.put_fragments.Goals.{In-loop-p, After-count_at-n}
 
-size : (c : In-loop-p) → c.fragment_size-size.result ≡ fragment_size 3 c.args.coder.now.settings.variant
+size : (c : In-loop-p) → c.fragment_size-size.result ≡ fragment_size encoder_version c.args.coder.now.settings.variant
 size c = rw (c.fragment_size-size.ensures.0, c.coding.ensures) (written_size _ _ _ _ _ c.requires.1)
 
 below : (c : In-loop-p) → c.loop-p.p < frames c.args.h * c.args.h.channels

@@ -5,6 +5,7 @@ use mathlib.Core.Path.{◌≡◌, sym, ◌∙◌}
 use lib.IntN.{nat_abs, ◌-ℤ◌}
 use Rattle.signed.proofs.Laws.{read16, product_le}
 use Rattle.signed.proofs.Raised.{raised-apart}
+use Rattle.sqv4_format.specs.Layout.{encoder_version}
 use Rattle.sqv4_format.specs.Gain.{output_gain}
 use Rattle.gain.proofs.Raised.{output_fits}
 use Rattle.adpcm.proofs.Bounds.{sample_read}
@@ -16,7 +17,7 @@ returns c =
     let x = rw (sample_read c.ranges.sample) at c.raise-x.ensures.0 in
     let y = rw (read16 a.predictor c.requires) at c.raised_output.ensures.0 in
     let small : c.abs_diff-d.result ≤ 65535 = omega (arith, c.abs_diff-d.ensures, c.raised_output.ensures.1, c.raise-x.ensures.1) in
-    let e : c.abs_diff-d.result ≡ nat_abs (a.sample -ℤ output_gain 3 a.volume a.predictor) =
+    let e : c.abs_diff-d.result ≡ nat_abs (a.sample -ℤ output_gain encoder_version a.volume a.predictor) =
     c.abs_diff-d.ensures
-    ∙ rw (x, y) (sym (raised-apart a.sample (output_gain 3 a.volume a.predictor) (omega (arith, c.ranges.sample.sfits)) (output_fits a.volume (omega arith) a.predictor c.requires))) in
+    ∙ rw (x, y) (sym (raised-apart a.sample (output_gain encoder_version a.volume a.predictor) (omega (arith, c.ranges.sample.sfits)) (output_fits a.volume (omega arith) a.predictor c.requires))) in
     (rw e, omega (arith, product_le 65535 65535 small small))
