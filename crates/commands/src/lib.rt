@@ -100,7 +100,7 @@ fn put_report(stream: &Stream, out: &mut [u8; ROOM]) -> usize
     let mut page = Printer::new(out);
     report_lines::header_line(&mut page, stream.header);
     for p in 0..stream.fragments() {
-        report_lines::fragment_line(&mut page, &stream.place(p));
+        report_lines::fragment_line(&mut page, stream, p);
     }
     page.count()
 }

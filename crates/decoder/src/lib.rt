@@ -24,14 +24,13 @@ fn spread<const CHANNELS: usize>(out: &mut [i16], samples: &[i16], first: usize,
 // Internal: the samples of the fragment at a place go into the output, sample t of channel c to t * channels + c. The bound of the
 // channels and the room stand in three contracts: a type for them would have to hold the place here, the player there, and lend `out`.
 fn put(place: Place, samples: &[i16; 64], out: &mut [i16])
-    requires { (place.stream.header.channels ≤ 2) × (place.stream.header.samples * place.stream.header.channels ≤ length out.old) }
-    ensures { out.new ≡ put_at place.entry.stream.header place.entry.p samples.now out.old }
+    requires { (place.header.channels ≤ 2) × (place.header.samples * place.header.channels ≤ length out.old) }
+    ensures { out.new ≡ put_at place.header place.p samples.now out.old }
 {
-    let header = place.stream.header;
-    let first = place.frame() * header.coding().frame_samples();
+    let first = place.first();
     let samples = &samples[..place.samples()];
     let channel = place.channel();
-    if header.channels == 1 {
+    if place.header.channels == 1 {
         spread::<1>(out, samples, first, channel);
     } else {
         spread::<2>(out, samples, first, channel);

@@ -1,15 +1,11 @@
 -- Loops over lanes that write an element of each of two lists, and the lanes before and after their run. Assumes nothing.
-use Prim.Native.Nat.{ℕ, ◌+◌, ◌*◌, ◌^◌, ◌<◌, ◌≤◌}
+use Prim.Native.Nat.{ℕ, ◌+◌, ◌<◌, ◌≤◌}
 use native.Mathlib.Decide.{ℕ_discrete}
 use native.Mathlib.Omega.{arith}
 use mathlib.Core.Path.{◌≡◌}
 use mathlib.Core.List.{List}
 use lib.ListN.{length, get_or, set, length-set}
 use lib.Seq.{get_or-set_same, get_or-set_other}
-use Rattle.signed.proofs.Laws.{product_le}
-use Rattle.sqv4_format.specs.Layout.{frames}
-use Rattle.sqv4_format.specs.declared.Header.{Header}
-use Rattle.sqv4_format.proofs.Sizes.{frames_few}
 
 -- of n elements of each list the first k are written, and P holds of them
 pub record EachOf {A B : Type 0} (P : ℕ → A → B → Type 0) (n k : ℕ) (xs : List A) (ys : List B) : Type 0 where
@@ -29,7 +25,3 @@ module _ {A B : Type 0} (P : ℕ → A → B → Type 0) {n : ℕ} {xs : List A}
       go : (j : ℕ) (a : A) (b : B) → Dec (j ≡ k) → j ≤ k → P j (get_or (set xs k x) j a) (get_or (set ys k y) j b)
       go j a b (yes q) m = rw (q, get_or-set_same xs k x a (omega (arith, e.xs_long)), get_or-set_same ys k y b (omega (arith, e.ys_long))) p
       go j a b (no q) m = rw (get_or-set_other xs k j x a q, get_or-set_other ys k j y b q) (e.each j (omega arith) a b)
-
--- the places of a stream are few
-pub places_few : (h : Header) → h.samples ≤ 4294967295 → h.channels ≤ 255 → frames h * h.channels < 2 ^ 40
-places_few h s c = omega (arith, product_le 4294967295 255 {a = frames h} (omega (arith, frames_few h)) c)

@@ -148,7 +148,7 @@ impl<'a> Player<'a> {
         for k in 0..N {
             lanes[k] = start(
                 self.tables,
-                &self.stream.place(p + k).fragment(),
+                &self.stream.fragment(p + k),
                 states[k],
                 &mut codes[k],
             );
@@ -158,7 +158,7 @@ impl<'a> Player<'a> {
         run(self.tables, &mut lanes, &codes, n, &mut depths);
         let mut after = states;
         for k in 0..N {
-            let fragment = self.stream.place(p + k).fragment();
+            let fragment = self.stream.fragment(p + k);
             after[k] = finish(
                 self.tables.coding,
                 &fragment,

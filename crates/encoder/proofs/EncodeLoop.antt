@@ -1,16 +1,17 @@
 -- The encoder's loop, fragment by fragment behind the header, gives the definition's bytes. Assumes nothing.
-use mathlib.Core.Path.{◌≡◌, refl, sym, ◌∙◌, ap, subst}
+use mathlib.Core.Path.{◌≡◌, sym, ◌∙◌, ap}
 use mathlib.Core.List.{List, ◌++◌, append_assoc, append-nil}
 use Prim.Native.Nat.{ℕ, ◌+◌, ◌*◌, ◌-◌, ◌/◌, ◌%◌, ◌≤◌, min}
 use native.Mathlib.Omega.{arith}
 use native.Mathlib.Numerals.{add-one}
+use native.Mathlib.Nat.{div-mul-le_self}
 use lib.IntN.{ℤ, pos}
-use lib.ListN.{length, get_or, take, drop, length-append, length-drop, take-append-drop}
+use lib.ListN.{length, get_or, take, drop, length-append, take-append-drop}
 use lib.Seq.{take_at, drop_at, drop-drop, length-take-le}
 use Rattle.lists.specs.Lists.{tabulate, joined}
 use Rattle.digits.proofs.Laws.{part_put}
 use Rattle.lists.proofs.ByIndex.{tabulate_part, length-joined}
-use Rattle.sqv4_format.specs.Layout.{encoder_version, fragment_size, size_in, rounded_up, frames, count}
+use Rattle.sqv4_format.specs.Layout.{encoder_version, fragment_size, whole_frame, size_in, count}
 use Rattle.sqv4_format.specs.Encode.{encoded_fragment, channel, frame_of, fragment_for, header_written}
 use Rattle.sqv4_format.proofs.Encoder.{sized}
 use Rattle.sqv4_format.specs.declared.Header.{Header}
@@ -28,22 +29,18 @@ module _ (header : List ℕ) (start : ℕ) (whole : length header ≡ start) (f 
   front_length : (p : ℕ) → length (header ++ joined f p) ≡ start + p * size
   front_length p = length-append header (joined f p) ∙ (omega (arith, whole, length-joined f size sized p))
 
-  pub length-put : (p : ℕ) → start + p * size ≤ length o → length (put_after header start f size o p) ≡ length o
-  unfolding put_after
-  length-put p h = simp (length-append, length-drop) (omega (arith, whole, length-joined f size sized p))
-
-  -- one fragment more, in the part of the output behind those before it
-  pub put_more : (p : ℕ) (out w : List ℕ) → out ≡ put_after header start f size o p → w ≡ f p
-      → take (start + p * size) out ++ w ++ drop (start + p * size + size) out ≡ put_after header start f size o (p + 1)
+  -- one fragment more, in the part of the output behind those before it, as the part was lent: from its start to its end
+  pub put_more : (p at len : ℕ) {out w : List ℕ} → at ≡ start + p * size → len ≡ size → out ≡ put_after header start f size o p → w ≡ f p
+      → take at out ++ (w ++ drop (at + len - at) (drop at out)) ≡ put_after header start f size o (p + 1)
   unfolding put_after joined
-  put_more p out w e g =
+  put_more p at len {out} ea el e g =
       let front = header ++ joined f p in
-      let at : ℕ = start + p * size in
-      let next : start + (p + 1) * size ≡ at + size = omega arith in
-      let low : take at out ≡ front = ap (take at) e ∙ take_at front (drop at o) at (front_length p) in
-      let high : drop (at + size) out ≡ drop (at + size) o =
-      sym (drop-drop size at out) ∙ ap (λ l. drop size (drop at l)) e ∙ ap (drop size) (drop_at front (drop at o) at (front_length p)) ∙ drop-drop size at o in
-      rw (low, high, g, next, add-one) (ap (λ l. l ++ drop (at + size) o) (append_assoc header (joined f p) (f p)))
+      let here : ℕ = start + p * size in
+      let next : start + (p + 1) * size ≡ here + size = omega arith in
+      let low : take here out ≡ front = ap (take here) e ∙ take_at front (drop here o) here (front_length p) in
+      let high : drop (here + size) out ≡ drop (here + size) o =
+      sym (drop-drop size here out) ∙ ap (λ l. drop size (drop here l)) e ∙ ap (drop size) (drop_at front (drop here o) here (front_length p)) ∙ drop-drop size here o in
+      rw (ea, el) (part_put here size out g ∙ rw (low, high, next, add-one) (ap (λ l. l ++ drop (here + size) o) (append_assoc header (joined f p) (f p))))
 
 -- frame f of a channel, as it is gathered from the interleaved samples
 pub gathered : (pcm : List ℤ) (channels c f : ℕ)
@@ -57,9 +54,13 @@ module _ (k : Settings) (pcm : List ℤ) (channels rate : ℕ) (h : Header) (wri
   unfolding header_written
   written_size = ap (λ (x : Header). size_in x) written
 
-  pub written_frames : frames h ≡ rounded_up (length pcm / channels) 63
-  unfolding frames header_written
-  written_frames = ap (λ (x : Header). frames x) written
+  pub written_frame : whole_frame h ≡ 63
+  unfolding header_written
+  written_frame = ap (λ (x : Header). whole_frame x) written
+
+  pub written_samples : h.samples * channels ≤ length pcm
+  unfolding header_written
+  written_samples = rw written (div-mul-le_self (length pcm) channels)
 
   pub written_count : (f : ℕ) → count h f ≡ min 63 (length pcm / channels - f * 63)
   unfolding count header_written
@@ -78,29 +79,16 @@ module _ (k : Settings) (pcm : List ℤ) (c : ℕ) (o : List ℕ) where
   pub writing_none : Writing 0 o
   writing_none = record { out_is = sym (take-append-drop 16 o) ∙ put_none _ _ _ _ _ }
 
-  pub length_writing : (p : ℕ) {out : List ℕ} → Writing p out → 16 + p * fragment_size encoder_version k.variant ≤ length o → length out ≡ length o
-  length_writing p w l =
-      ap length w.out_is
-      ∙ length-put (take 16 o) 16 (length-take-le 16 o (omega arith)) (fragment_for k pcm c) size (sized k pcm c 0) o p l
-
   -- one fragment more: its samples are gathered, encoded, and come back in the part of the output that was lent
-  pub writing_more : (p n : ℕ) {out : List ℕ} (s : List ℤ) (bytes : List ℕ) → Writing p out → 16 ≤ length o
+  pub writing_more : (p n at len : ℕ) {out : List ℕ} (s : List ℤ) {bytes : List ℕ} → at ≡ 16 + p * fragment_size encoder_version k.variant → len ≡ fragment_size encoder_version k.variant
+      → Writing p out → 16 ≤ length o
       → take n s ≡ tabulate (λ w. get_or pcm ((p / c * 63 + w) * c + p % c) (pos 0)) n → n ≡ min 63 (length pcm / c - p / c * 63)
       → bytes ≡ encoded_fragment k (take n s)
-      → Writing (p + 1) (take (16 + p * fragment_size encoder_version k.variant) out ++ bytes ++ drop (16 + p * fragment_size encoder_version k.variant + fragment_size encoder_version k.variant) out)
+      → Writing (p + 1) (take at out ++ (bytes ++ drop (at + len - at) (drop at out)))
   unfolding fragment_for
-  writing_more p n {out} s bytes w l eg en eb =
+  writing_more p n at len s ea el w l eg en eb =
       let same : take n s ≡ frame_of (channel pcm c (p % c)) (p / c) =
       eg ∙ ap (tabulate (λ w. get_or pcm ((p / c * 63 + w) * c + p % c) (pos 0))) en ∙ sym (gathered pcm c (p % c) (p / c)) in
       record {
-        out_is = put_more (take 16 o) 16 (length-take-le 16 o l) (fragment_for k pcm c) size (sized k pcm c 0) o p out bytes w.out_is (eb ∙ ap (encoded_fragment k) same);
+        out_is = put_more (take 16 o) 16 (length-take-le 16 o l) (fragment_for k pcm c) size (sized k pcm c 0) o p at len ea el w.out_is (eb ∙ ap (encoded_fragment k) same);
       }
-
-  -- the same, as the part was lent: from its start to its end, the end less the start long
-  pub writing_lent : (p n size : ℕ) {out : List ℕ} (s : List ℤ) (bytes : List ℕ) → size ≡ fragment_size encoder_version k.variant → Writing p out → 16 ≤ length o
-      → take n s ≡ tabulate (λ w. get_or pcm ((p / c * 63 + w) * c + p % c) (pos 0)) n → n ≡ min 63 (length pcm / c - p / c * 63)
-      → bytes ≡ encoded_fragment k (take n s)
-      → Writing (p + 1) (take (16 + p * size) out ++ (bytes ++ drop (16 + p * size + size - (16 + p * size)) (drop (16 + p * size) out)))
-  writing_lent p n size {out} s bytes es w l eg en eb =
-      let fs : ℕ = fragment_size encoder_version k.variant in
-      rw es (subst (λ (x : List ℕ). Writing (p + 1) x) (sym (part_put (16 + p * fs) fs out refl)) (writing_more p n s bytes w l eg en eb))

@@ -3,12 +3,13 @@
 
 ghost use Rattle.std.specs.Prelude.{◌≡◌, ◌++◌, ◌+◌, ◌-◌, ◌*◌, ◌/◌, ◌<◌, ◌≤◌, pos, length, take, drop, get_or};
 ghost use Rattle.lists.specs.Lists.{tabulate};
-ghost use Rattle.sqv4_format.specs.Layout.{encoder_version, fragment_size, header_bytes, frames};
+ghost use Rattle.sqv4_format.specs.Layout.{encoder_version, fragment_size, header_bytes, frames, stream_length};
 ghost use Rattle.sqv4_format.specs.Encode.{fragment_for, header_written};
 ghost use Rattle.sqv4_format.specs.Answers.{AsEncoded};
 ghost use Rattle.encoder.specs.Loops.{put_after};
 
 use encoder_step::Coder;
+use layout::Place;
 use sqv4_format::{Error, Header, Settings, Variant};
 
 // The 16 bytes of a header, by the definition's name.
@@ -64,18 +65,16 @@ fn gather(pcm: &[i16], first: usize, channels: usize, channel: usize, n: usize) 
 // lent by its place, since a proof doesn't know what `chunks_exact_mut` leaves.
 fn put_fragments(coder: &Coder, pcm: &[i16], h: Header, out: &mut [u8])
     requires { (0 < h.channels) × (h ≡ header_written coder.now.settings pcm.now h.channels h.rate)
-        × (16 + frames h * h.channels * fragment_size encoder_version coder.now.settings.variant ≤ length out.old) }
+        × (stream_length h ≤ length out.old) }
     ensures { out.new ≡ put_after (take 16 out.old) 16 (fragment_for coder.now.settings pcm.now h.channels) (fragment_size encoder_version coder.now.settings.variant) out.old (frames h * h.channels) }
 {
     let channels = h.channels as usize;
     let size = h.coding().fragment_size();
     for p in 0..layout::fragment_count(h) {
-        let f = p / channels;
-        let c = p % channels;
-        let first = f * Variant::FRAGMENT_SAMPLES;
-        let n = layout::count_at(h, f);
-        let s = gather(pcm, first, channels, c, n);
-        let at = layout::HEADER_SIZE + p * size;
+        let place = Place { header: h, p };
+        let n = place.samples();
+        let s = gather(pcm, place.first(), channels, place.channel(), n);
+        let at = place.start();
         let end = at + size;
         encoder_fragment::encode_fragment(coder, &s[..n], &mut out[at..end]);
     }

@@ -8,7 +8,7 @@ ghost use Rattle.sqv4_format.specs.Inspect.{same_letters, field_checks, header_c
 ghost use Rattle.sqv4_format.specs.Answers.{answered};
 
 use layout::{Place, Stream};
-use sqv4_format::{Error, Header, State, Variant};
+use sqv4_format::{Coded, Error, Header, State, Variant};
 
 // Internal: whether the first four bytes are "SQV4".
 #[tactic(auto, using(lists::proofs::Letters::letters_equal), unfolding(sqv4_format::specs::Inspect::same_letters))]
@@ -79,14 +79,12 @@ fn header_checks(file: &[u8]) -> Result<Header, Error>
     field_checks(file, header_of(file, variant))
 }
 
-// The checks 11 and 12 of a fragment.
+// The checks 11 and 12 of the fragment at a place.
 #[tactic(auto, using(outcome::proofs::Laws::checks), unfolding(sqv4_format::specs::Inspect::fragment_checks, sqv4_format::specs::Inspect::index_too_high, sqv4_format::specs::Inspect::unused_zero, sqv4_format::specs::Answers::number_of, sqv4_format::specs::Answers::values_of))]
-fn fragment_checks(place: &Place) -> Result<Header, Error>
-    ensures { answered result ≡ fragment_checks place.now.stream.header (place.now.p / place.now.stream.header.channels)
-        (fragment_at_place place.now.stream.header place.now.stream.file.now place.now.p) }
+fn fragment_checks(place: Place, fragment: &Coded) -> Result<Header, Error>
+    ensures { answered result ≡ fragment_checks place.header (place.p / place.header.channels) fragment.now.bytes.now }
 {
-    let h = place.stream.header;
-    let fragment = place.fragment();
+    let h = place.header;
     if let Some(index) = fragment.index(h.coding())
         && State::MAX_STEP_INDEX < index
     {
@@ -105,7 +103,7 @@ fn check_fragments(stream: &Stream) -> Result<Header, Error>
     ensures { answered result ≡ in_order stream.now.header (λ p. fragment_checks stream.now.header (p / stream.now.header.channels) (fragment_at_place stream.now.header stream.now.file.now p)) (frames stream.now.header * stream.now.header.channels) }
 {
     for p in 0..stream.fragments() {
-        fragment_checks(&stream.place(p))?;
+        fragment_checks(stream.place(p), &stream.fragment(p))?;
     }
     Ok(stream.header)
 }

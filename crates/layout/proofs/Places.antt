@@ -1,16 +1,16 @@
 -- Where the fragments of a stream lie, and a channel's samples in an interleaved list. Assumes nothing.
-use Prim.Native.Nat.{ℕ, suc, ◌+◌, ◌-◌, ◌*◌, ◌/◌, ◌≤◌, ◌<◌, min}
+use Prim.Native.Nat.{ℕ, suc, ◌+◌, ◌-◌, ◌*◌, ◌/◌, ◌^◌, ◌≤◌, ◌<◌}
 use native.Mathlib.Omega.{arith}
-use native.Mathlib.Nat.{mul-le-mul_right, mul-le-mul_left, lt_of_mul-lt-mul_right, div-lt_iff_lt-mul, div-mul-le_self, div-add-mod', mod-lt, add-sub_cancel_left}
+use native.Mathlib.Nat.{mul-le-mul, mul-le-mul_right, mul-le-mul_left, lt_of_mul-lt-mul_left, lt_of_mul-lt-mul_right, div-lt_iff_lt-mul, div-mul-le_self, div-add-mod', mod-lt, add-sub_cancel_left}
 use native.Mathlib.Decide.{dec_lt}
 use mathlib.Core.Bool.{cond}
 use borrow.Author.Tests.{lt-ltb, le-ltb}
 use lib.Dec.{ltb}
 use mathlib.Core.List.{List}
 use lib.ListN.{take, drop}
-use mathlib.Core.Path.{◌≡◌, ap}
-use Rattle.sqv4_format.specs.Layout.{rounded_up, whole_frame, frames, count, size_in, fragment_at_place}
-use Rattle.sqv4_format.proofs.Sizes.{frame_in}
+use mathlib.Core.Path.{◌≡◌}
+use Rattle.sqv4_format.specs.Layout.{whole_frame, frames, count, size_in, stream_length, fragment_at_place}
+use Rattle.sqv4_format.proofs.Sizes.{frames_few, frame_in}
 use Rattle.sqv4_format.specs.declared.Header.{Header}
 
 -- ---- fragments
@@ -20,23 +20,42 @@ pub part_place : (h : Header) (d : List ℕ) (p : ℕ) → take (16 + p * size_i
 unfolding fragment_at_place
 part_place h d p = rw (add-sub_cancel_left (16 + p * size_in h) (size_in h))
 
--- the frame of place p
-pub frame_of_lem : (p frames channels : ℕ) → 0 < channels → p < frames * channels → p / channels < frames
-frame_of_lem p frames channels h l = (div-lt_iff_lt-mul h).1 l
+-- there are few
+pub places_few : (h : Header) → h.samples ≤ 4294967295 → h.channels ≤ 255 → frames h * h.channels < 2 ^ 40
+places_few h s c = let f : frames h ≤ 4294967295 = omega (arith, frames_few h) in omega (arith, mul-le-mul f c)
 
--- place p is in a whole frame where another frame follows it, and else in the last one
-module _ (h : Header) (p : ℕ) (hc : 0 < h.channels) (l : p < frames h * h.channels) where
+-- a place of the file order
+module _ (h : Header) (p : ℕ) (l : p < frames h * h.channels) where
   abbrev c : ℕ
   c = h.channels
 
   abbrev f : ℕ
   f = p / h.channels
 
+  pub some : 0 < h.channels
+  some = lt_of_mul-lt-mul_left (frames h) (omega arith)
+
+  f_in : f < frames h
+  f_in = (div-lt_iff_lt-mul some).1 l
+
+  -- its samples lie in its channel
+  pub frame_start : p / h.channels * whole_frame h ≤ h.samples
+  frame_start = omega (arith, frame_in h f f_in)
+
+  pub frame_end : p / h.channels * whole_frame h + count h (p / h.channels) ≤ h.samples
+  unfolding count
+  frame_end = omega (arith, frame_start)
+
+  -- its bytes lie in the stream
+  pub place_end : 16 + p * size_in h + size_in h ≤ stream_length h
+  place_end = omega (arith, mul-le-mul_right (size_in h) l)
+
+  -- it is in a whole frame where another frame follows it, and else in the last one
   low : f * c ≤ p
   low = div-mul-le_self p c
 
   high : p < f * c + c
-  high = omega (arith, div-add-mod' p c, mod-lt p hc)
+  high = omega (arith, div-add-mod' p c, mod-lt p some)
 
   pub count_at_place : cond (ltb (p + h.channels) (frames h * h.channels)) (whole_frame h) (count h (frames h - 1)) ≡ count h (p / h.channels)
   unfolding count
@@ -48,7 +67,7 @@ module _ (h : Header) (p : ℕ) (hc : 0 < h.channels) (l : p < frames h * h.chan
           rw (lt-ltb _ _ more) (omega (arith, frame_in h (f + 1) next))
       go (no none) =
           let above : frames h < f + 2 = lt_of_mul-lt-mul_right c (omega (arith, high)) in
-          let here : f ≡ frames h - 1 = omega (arith, frame_of_lem p (frames h) c hc l) in
+          let here : f ≡ frames h - 1 = omega (arith, f_in) in
           rw (le-ltb (p + c) (frames h * c) (omega arith), here)
 
 -- ---- samples
@@ -67,26 +86,3 @@ place_in first w n channels ch len hw hc h =
 
     some : ch < channels → 1 ≤ channels
     some hc = omega arith
-
--- a frame's samples lie in the output: those of frame f begin at f × whole, and count many follow
-pub record Room (first n channels samples len : ℕ) : Type 0 where
-  pub start : first ≤ samples
-  pub within : (first + n) * channels ≤ len
-
-pub frame_room : (h : Header) (f len : ℕ) → f < frames h → h.samples * h.channels ≤ len → Room (f * whole_frame h) (count h f) h.channels h.samples len
-unfolding count
-frame_room h f len hf hl =
-    let start : f * whole_frame h ≤ h.samples = omega (arith, frame_in h f hf) in
-    let end : f * whole_frame h + count h f ≤ h.samples = omega arith in
-    record { start = start; within = omega (arith, mul-le-mul_right h.channels end) }
-
--- a fragment's bytes lie in the output
-pub spot : (p fragments size len : ℕ) → p < fragments → 16 + fragments * size ≤ len → 16 + p * size + size ≤ len
-spot p fragments size len h l = omega (arith, mul-le-mul_right size h)
-
--- the samples of frame f of a channel lie in the interleaved list
-pub gather_room : (f n total c len : ℕ) → f < rounded_up total 63 → n ≡ min 63 (total - f * 63) → total ≡ len / c → (f * 63 + n) * c ≤ len
-gather_room f n total c len hf en et =
-    let first : f * 63 ≤ total = omega arith in
-    let end : f * 63 + n ≤ total = omega arith in
-    omega (arith, mul-le-mul_right c end, ap (◌* c) et, div-mul-le_self len c)

@@ -1,8 +1,8 @@
 // Where the fragments of a stream lie: frames and their counts, sizes, places.
 #![tactic(auto)]
 
-ghost use Rattle.std.specs.Prelude.{◌≡◌, ◌-◌, ◌*◌, ◌/◌, ◌%◌, ◌^◌, ◌≤◌, ◌<◌, length};
-ghost use Rattle.sqv4_format.specs.Layout.{version_for, channels_fit, frames, count, stream_length, fragment_at_place};
+ghost use Rattle.std.specs.Prelude.{◌≡◌, ◌+◌, ◌-◌, ◌*◌, ◌/◌, ◌%◌, ◌^◌, ◌≤◌, ◌<◌, length};
+ghost use Rattle.sqv4_format.specs.Layout.{version_for, channels_fit, whole_frame, frames, count, size_in, stream_length, fragment_at_place};
 
 use sqv4_format::{Coded, Header};
 
@@ -19,7 +19,7 @@ fn frame_count(h: Header) -> usize
 
 // Samples per channel of frame `f`, 0 past the last frame.
 #[tactic(auto, unfolding(sqv4_format::specs::Layout::count))]
-pub fn count_at(h: Header, f: usize) -> usize
+fn count_at(h: Header, f: usize) -> usize
     ensures { (result ≡ count h f) × (result ≤ 64) }
 {
     let whole = h.coding().frame_samples();
@@ -28,7 +28,7 @@ pub fn count_at(h: Header, f: usize) -> usize
 }
 
 // Samples per channel of the last frame, 0 where there is none.
-pub fn last_count(h: Header) -> usize
+fn last_count(h: Header) -> usize
     ensures { (result ≡ count h (frames h - 1)) × (result ≤ 64) }
 {
     count_at(h, frame_count(h).saturating_sub(1))
@@ -64,6 +64,61 @@ pub fn version_for(channels: u8) -> u8
     sqv4_format::VERSION
 }
 
+// The place of a fragment in the file order of a stream: frame by frame, left before right.
+#[derive(Clone, Copy)]
+pub struct Place {
+    pub header: Header,
+    pub p: usize,
+    ghost within: { p < frames header * header.channels },
+}
+
+impl Place {
+    // The frame.
+    pub fn frame(self) -> usize
+        ensures { result ≡ self.p / self.header.channels }
+    {
+        self.p / (self.header.channels as usize)
+    }
+
+    // The channel.
+    pub fn channel(self) -> usize
+        ensures { (result ≡ self.p % self.header.channels) × (result < self.header.channels) }
+    {
+        self.p % (self.header.channels as usize)
+    }
+
+    // Which of its channel's samples the fragment's first one is.
+    #[tactic(auto, using(crate::proofs::Places::frame_start))]
+    pub fn first(self) -> usize
+        ensures { result ≡ self.p / self.header.channels * whole_frame self.header }
+    {
+        self.frame() * self.header.coding().frame_samples()
+    }
+
+    // How many samples the fragment has: those of a whole frame before the last frame. They lie in the channel. A loop over the places
+    // divides nothing at a turn.
+    pub fn samples(self) -> usize
+        ensures { (result ≡ count self.header (self.p / self.header.channels)) × (result ≤ 64)
+            × (self.p / self.header.channels * whole_frame self.header + result ≤ self.header.samples) }
+    {
+        let header = self.header;
+        let fragments = fragment_count(header);
+        if self.p + (header.channels as usize) < fragments {
+            header.coding().frame_samples()
+        } else {
+            last_count(header)
+        }
+    }
+
+    // The byte of the stream where the fragment begins. It ends within the stream.
+    #[tactic(auto, using(crate::proofs::Places::places_few, crate::proofs::Places::place_end))]
+    pub fn start(self) -> usize
+        ensures { (result ≡ 16 + self.p * size_in self.header) × (result + size_in self.header ≤ stream_length self.header) }
+    {
+        HEADER_SIZE + self.p * self.header.coding().fragment_size()
+    }
+}
+
 // A file with its header, which has channels and says how long the file is.
 #[derive(Clone, Copy)]
 pub struct Stream<'a> {
@@ -82,60 +137,26 @@ impl<'a> Stream<'a> {
     }
 
     // Internal: the place `p` of the file order.
-    pub fn place(&self, p: usize) -> Place<'a>
+    pub fn place(&self, p: usize) -> Place
         requires { p < frames self.now.header * self.now.header.channels }
-        ensures { (result.p ≡ p) × (result.stream.header ≡ self.now.header) × (result.stream.file.now ≡ self.now.file.now) }
+        ensures { (result.header ≡ self.now.header) × (result.p ≡ p) }
     {
-        Place { stream: *self, p }
-    }
-}
-
-// The place of a fragment in the file order of a stream: frame by frame, left before right.
-#[derive(Clone, Copy)]
-pub struct Place<'a> {
-    pub stream: Stream<'a>,
-    pub p: usize,
-    ghost within: { p < frames stream.header * stream.header.channels },
-}
-
-impl<'a> Place<'a> {
-    // The frame.
-    pub fn frame(&self) -> usize
-        ensures { result ≡ self.now.p / self.now.stream.header.channels }
-    {
-        self.p / (self.stream.header.channels as usize)
-    }
-
-    // The channel.
-    pub fn channel(&self) -> usize
-        ensures { result ≡ self.now.p % self.now.stream.header.channels }
-    {
-        self.p % (self.stream.header.channels as usize)
-    }
-
-    // The fragment.
-    #[tactic(auto, using(crate::proofs::Places::part_place))]
-    pub fn fragment(&self) -> Coded<'a>
-        ensures { result.bytes.now ≡ fragment_at_place self.now.stream.header self.now.stream.file.now self.now.p }
-    {
-        let size = self.stream.header.coding().fragment_size();
-        let at = HEADER_SIZE + self.p * size;
-        let end = at + size;
-        Coded {
-            bytes: &self.stream.file[at..end],
+        Place {
+            header: self.header,
+            p,
         }
     }
 
-    // The fragment's samples: those of a whole frame before the last frame. A loop over the places divides nothing at a turn.
-    pub fn samples(&self) -> usize
-        ensures { (result ≡ count self.now.stream.header (self.now.p / self.now.stream.header.channels)) × (result ≤ 64) }
+    // Internal: the fragment at the place `p`.
+    #[tactic(auto, using(crate::proofs::Places::part_place))]
+    pub fn fragment(&self, p: usize) -> Coded<'a>
+        requires { p < frames self.now.header * self.now.header.channels }
+        ensures { result.bytes.now ≡ fragment_at_place self.now.header self.now.file.now p }
     {
-        let header = self.stream.header;
-        let fragments = self.stream.fragments();
-        if self.p + (header.channels as usize) < fragments {
-            header.coding().frame_samples()
-        } else {
-            last_count(header)
+        let at = self.place(p).start();
+        let end = at + self.header.coding().fragment_size();
+        Coded {
+            bytes: &self.file[at..end],
         }
     }
 }

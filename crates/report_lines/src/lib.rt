@@ -2,12 +2,13 @@
 // in specs/, which has at most 128 bytes.
 #![tactic(auto)]
 
-ghost use Rattle.std.specs.Prelude.{◌≡◌, ◌≤◌, length};
+ghost use Rattle.std.specs.Prelude.{◌≡◌, ◌*◌, ◌<◌, ◌≤◌, length};
 ghost use Rattle.outcome.specs.Outcome.{listed};
+ghost use Rattle.sqv4_format.specs.Layout.{frames};
 ghost use Rattle.text.specs.Printer.{Printed};
 ghost use Rattle.report_lines.specs.Lines.{refusal_line, spaced_values, variant_name, header_line, index_field, fragment_line};
 
-use layout::Place;
+use layout::Stream;
 use outcome::{Refusal, Values};
 use sqv4_format::{Coded, Coding, Header, Variant};
 use text::Printer;
@@ -78,18 +79,20 @@ fn index_field(page: &mut Printer, coding: Coding, fragment: &Coded)
     }
 }
 
-// The line of the fragment at a place of a stream.
+// Internal: the line of the fragment at the place `p` of a stream.
 #[tactic(auto, using(crate::proofs::Lines::fragment_few))]
-pub fn fragment_line(page: &mut Printer, place: &Place)
-    ensures prints { Printed page.old (fragment_line place.now.stream.header place.now.stream.file.now place.now.p) page.new }
-    ensures short { length (fragment_line place.now.stream.header place.now.stream.file.now place.now.p) ≤ 128 }
+pub fn fragment_line(page: &mut Printer, stream: &Stream, p: usize)
+    requires { p < frames stream.now.header * stream.now.header.channels }
+    ensures prints { Printed page.old (fragment_line stream.now.header stream.now.file.now p) page.new }
+    ensures short { length (fragment_line stream.now.header stream.now.file.now p) ≤ 128 }
 {
-    let fragment = place.fragment();
+    let place = stream.place(p);
+    let fragment = stream.fragment(p);
     page.number(place.frame() as u64);
     page.field(b" ", place.channel() as u64);
     page.field(b" ", place.samples() as u64);
     page.field(b" ", fragment.volume() as u64);
     page.word(b" ");
-    index_field(page, place.stream.header.coding(), &fragment);
+    index_field(page, stream.header.coding(), &fragment);
     page.word(b"\n");
 }

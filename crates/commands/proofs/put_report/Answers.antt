@@ -16,7 +16,7 @@ loop-p-init c = (printed_none _, omega arith)
 pub loop-p-preserved : goal.loop-p-preserved
 unfolding joined
 loop-p-preserved c =
-    let next = rw (c.place.ensures.0, c.place.ensures.1, c.place.ensures.2) at c.fragment_line.ensures in
+    let next = c.fragment_line.ensures in
     rw add-one (then_printed c.loop-p.invariant.0 next.prints, simp length-append (omega (arith, c.loop-p.invariant.1, next.short)))
 
 pub returns : goal.returns

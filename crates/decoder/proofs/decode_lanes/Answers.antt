@@ -1,6 +1,6 @@
 -- `decoder::decode_lanes` meets its contract. Assumes nothing.
 use native.Mathlib.Omega.{arith}
-use Rattle.decoder_fragment.proofs.Lanes.{places_few}
+use Rattle.layout.proofs.Places.{places_few}
 use Rattle.decoder.proofs.Lanes.{lane_more}
 use Rattle.decoder.proofs.decode_lanes.Goals as goal
 

@@ -9,7 +9,7 @@ use Rattle.inspect.proofs.check_fragments.Goals.{After-fragment_checks}
 
 -- this turn's checks are those of place p
 here : (c : After-fragment_checks) → answered c.fragment_checks.result ≡ check_at c.args.stream.now.header c.args.stream.now.file.now c.loop-p.p
-here c = rw (c.place.ensures.0, c.place.ensures.1, c.place.ensures.2) at c.fragment_checks.ensures
+here c = rw (c.place.ensures.0, c.place.ensures.1, c.fragment.ensures) at c.fragment_checks.ensures
 
 pub returns-in_err-fragment_checks : goal.returns-in_err-fragment_checks
 returns-in_err-fragment_checks c =

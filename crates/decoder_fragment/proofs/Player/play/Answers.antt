@@ -9,20 +9,20 @@ use Rattle.fragment_plain.proofs.Fragments.{codes_small}
 use Rattle.sqv4_format.specs.declared.Reached.{Reached}
 use Rattle.std.proofs.lemmas.List.{get_or_read, get_or-replicate}
 use Rattle.decoder_fragment.proofs.Running.{played}
-use Rattle.decoder_fragment.proofs.Lanes.{each_more, places_few}
+use Rattle.layout.proofs.Places.{places_few}
+use Rattle.decoder_fragment.proofs.Lanes.{each_more}
 use Rattle.decoder_fragment.proofs.Player.play.Goals as goal
 
 pub start-requires : goal.start-requires
 start-requires g c =
     let s = c.args.self in
-    let place = c.place.result in
-    rw (c.fragment.ensures, s.same_version, s.same_variant, ← c.place.ensures.1) (place_length place.stream.header place.stream.file.now place.p place.stream.whole place.within)
+    rw (c.fragment.ensures, s.same_version, s.same_variant) (place_length s.stream.header s.stream.file.now _ s.stream.whole (omega arith))
 
 pub loop-k-preserved : goal.loop-k-preserved
 loop-k-preserved g c =
     let r = c.index-states-k in
     let same = λ (d : Reached). sym r.is ∙ get_or_read c.args.states c.loop-k.k r.result (omega arith) r.is d in
-    each_more _ c.loop-k.invariant c.loop-k-test.true (λ d. rw (← same d) (rw (c.fragment.ensures, c.place.ensures.0, c.place.ensures.1, c.place.ensures.2) at c.start.ensures))
+    each_more _ c.loop-k.invariant c.loop-k-test.true (λ d. rw (← same d) (rw c.fragment.ensures at c.start.ensures))
 
 pub run-requires : goal.run-requires
 run-requires g c =
@@ -56,14 +56,13 @@ loop-k-2-preserved g c =
     let l : k < g.row.N = c.loop-k-2-test.true in
     let r = c.index-states-k-in-loop-k-2 in
     let same = λ (d : Reached). sym r.is ∙ get_or_read a.states k r.result (omega arith) r.is d in
-    let first = c.place-2.ensures in
+    let first = c.place.ensures in
     let n = rw (first.0, first.1) at c.samples-n.ensures.0 in
     let few : c.samples-n.result ≤ frame_samples a.self.tables.coding.version = rw (n, a.self.same_version) (count_whole h (a.p / h.channels)) in
     let lane = c.index-lanes-k-in-loop-k-2.result in
     let started = c.loop-k.invariant.each k (omega arith) [] lane r.result in
     let ran = c.run.ensures.each k l lane in
-    let place = c.place-in-loop-k-2.ensures in
-    let finished = rw (c.fragment-fragment.ensures, place.0, place.1, place.2) at c.finish.ensures in
+    let finished = rw c.fragment-fragment.ensures at c.finish.ensures in
     let p = played few started ran finished a.self.same_version a.self.same_variant n in
     each_more _ c.loop-k-2.invariant l (λ d. rw (← same d) (record { state = p.0; samples_are = p.1 }))
 
