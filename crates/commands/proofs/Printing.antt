@@ -20,26 +20,22 @@ use Rattle.sqv4_format.specs.declared.Header.{Header}
 use Rattle.sqv4_format.specs.declared.Settings.{Settings}
 use Rattle.sqv4_format.specs.declared.Variant.{Variant}
 use Rattle.sqv4_format.proofs.Sizes.{payload_few}
+use Rattle.parts.specs.Parts.{part_in}
 use Rattle.wav_format.specs.Wave.{read_wave, part_of}
-use Rattle.wav_format.specs.Samples.{samples_of}
-use Rattle.wav_format.specs.Answers.{AsSamples}
-use Rattle.wav_format.specs.Answers as waves
+use Rattle.wav_format.specs.Samples.{samples_of, samples_call}
+use Rattle.outcome.specs.Table.{number_of, values_of, refusal, Gives}
+use Rattle.outcome.proofs.Table.{gives_refused}
 use Rattle.wav_format.specs.declared.Wave.{Wave}
-use Rattle.wav_format.specs.declared.WaveError.{WaveError}
+use Rattle.outcome.specs.declared.Error.{Error}
 use Rattle.wav_format.proofs.Claims.{load_accepts}
 use Rattle.wav_samples.proofs.Samples.{length_samples}
 use Rattle.io.specs.Counts.{IsPrefixLen}
 use Rattle.text.specs.Text.{written, Put}
 use Rattle.text.proofs.Laws.{put_ends}
-use Rattle.commands.specs.Refused.{number_of, values_of, Gives}
-use Rattle.commands.specs.declared.Refused.{Refused}
-use Rattle.commands.specs.declared.Refused.TheVariants.{Codec}
 use Rattle.std.specs.declared.result.Result.{Result}
 use Rattle.std.specs.declared.result.Result.TheVariants.{Ok, Err}
 use Rattle.std.specs.Result.{IsErrAnd}
 use Rattle.std.proofs.lemmas.Result.{err_from_is_err_and}
-use Rattle.sqv4_format.specs.Answers.{AsEncoded}
-use Rattle.sqv4_format.specs.declared.Error.{Error}
 use Rattle.digits.proofs.Laws.{tail_all}
 use Rattle.commands.specs.Commands.{printed, encode_whole, encode_wave, converted, report, reported}
 use Rattle.report_lines.specs.Lines.{refusal_line}
@@ -47,16 +43,12 @@ use Rattle.report_lines.specs.Lines.{refusal_line}
 -- ---- what a program gives
 
 module _ {o : Outcome (List ℕ)} {out : List ℕ} where
-  pub gives_refusal : (r : Refused) → refused (number_of r) (values_of r) ≡ o → Gives o out (Err r) out
-  unfolding output_after
-  gives_refusal r e = record { answered = on_refused length o e; output_left = rw (← e) refl }
-
   pub gives_text : {text after : List ℕ} {next : ℕ} → result text ≡ o → Put out 0 text after next → Gives o out (Ok next) after
   unfolding on_result output_after written
   gives_text e p = rw (← e) (record { answered = ap result (p.place ∙ zero-add _); output_left = p.output ∙ rw zero-add refl })
 
-  pub gives_error : (e : Refused) (r : Result ℕ Refused) → IsErrAnd r (λ x. x ≡ e) → refused (number_of e) (values_of e) ≡ o → Gives o out r out
-  gives_error e r i q = let p = err_from_is_err_and r i in rw (p.1, p.2) (gives_refusal e q)
+  pub gives_error : (e : Error) (r : Result ℕ Error) → IsErrAnd r (λ x. x ≡ e) → refusal e ≡ o → Gives o out r out
+  gives_error e r i q = let p = err_from_is_err_and r i in rw (p.1, p.2) (gives_refused e q)
 
 -- a text that is given is printed, and of what is refused its line
 module _ {out output : List ℕ} where
@@ -65,7 +57,7 @@ module _ {out output : List ℕ} where
   prints_text (result text) {n} g = let same : n ≡ length text = let e = g.answered in cc in record { place = rw zero-add same; output = rw zero-add g.output_left }
   prints_text (refused m vs) g = let e = g.answered in let z : ◌≡◌ {A = ℕ} 0 1 = cc in let no : ⊥ = omega arith in absurd no
 
-  pub prints_line : (o : Outcome (List ℕ)) (r : Refused) {after : List ℕ} {next : ℕ} → Gives o out (Err r) output
+  pub prints_line : (o : Outcome (List ℕ)) (r : Error) {after : List ℕ} {next : ℕ} → Gives o out (Err r) output
       → Put output 0 (refusal_line (number_of r) (values_of r)) after next → Put out 0 (printed o) after next
   unfolding printed on_result output_after
   prints_line (result text) r g p = let e = g.answered in let z : ◌≡◌ {A = ℕ} 0 1 = cc in let no : ⊥ = omega arith in absurd no
@@ -95,17 +87,17 @@ fragments_few h l = omega (arith, mul-le-mul_left (frames h * h.channels) (fragm
 -- ---- sample bytes
 
 module _ (bytes : List ℕ) (out output : List ℤ) (room : length bytes / 2 ≤ length out) where
-  pub loaded : (n : ℕ) → AsSamples bytes out (Ok n) output → (n ≡ length bytes / 2) × (take n output ≡ samples_of bytes)
+  pub loaded : (n : ℕ) → Gives (samples_call bytes (length out)) out (Ok n) output → (n ≡ length bytes / 2) × (take n output ≡ samples_of bytes)
   unfolding on_result output_after
   loaded n p =
       let same : result n ≡ result (length (samples_of bytes)) = rw (load_accepts bytes (length out) room) at p.answered in
       let count : n ≡ length (samples_of bytes) = cc in
       (count ∙ length_samples bytes, rw (p.output_left, load_accepts bytes (length out) room) (take_at (samples_of bytes) _ n (sym count)))
 
-  pub not_loaded : {P : Type 0} (e : WaveError) → AsSamples bytes out (Err e) output → P
+  pub not_loaded : {P : Type 0} (e : Error) → Gives (samples_call bytes (length out)) out (Err e) output → P
   unfolding on_result
   not_loaded e p =
-      let refuses : refused (waves.number_of e) (waves.values_of e) ≡ result (length (samples_of bytes)) = rw (load_accepts bytes (length out) room) at p.answered in
+      let refuses : refusal e ≡ result (length (samples_of bytes)) = rw (load_accepts bytes (length out) room) at p.answered in
       let z : ◌≡◌ {A = ℕ} 0 1 = cc in
       let no : ⊥ = omega arith in
       absurd no
@@ -139,15 +131,6 @@ module _ (k : Settings) (pcm : List ℤ) (channels rate : ℕ) (few : length pcm
       go false e = rw e refl
       go true e = rw (le-ltb room needed (omega (arith, needed_few e)), le-ltb needed needed (omega arith)) refl
 
-module _ {k : Settings} {pcm : List ℤ} {channels rate : ℕ} {out output : List ℕ} {o : Outcome (List ℕ)} (all : encode_call k pcm channels rate (length out) ≡ o) where
-  pub gives_encoded : {n : ℕ} → AsEncoded k pcm channels rate out (Ok n) output → Gives o out (Ok n) output
-  gives_encoded e = record { answered = e.answered ∙ ap (on_result length) all; output_left = e.output_left ∙ ap (λ (x : Outcome (List ℕ)). output_after x out) all }
-
-  pub gives_unencoded : (e : Error) (r : Result ℕ Refused) → AsEncoded k pcm channels rate out (Err e) output → IsErrAnd r (λ x. x ≡ Codec e) → Gives o out r output
-  gives_unencoded e r a i =
-      let p = err_from_is_err_and r i in
-      rw (p.1, p.2) (record { answered = a.answered ∙ ap (on_result length) all; output_left = a.output_left ∙ ap (λ (x : Outcome (List ℕ)). output_after x out) all })
-
 -- ---- the programs' own checks
 
 module _ (input : List ℕ) where
@@ -179,23 +162,14 @@ module _ (input : List ℕ) where
       unfolding encode_wave
       wave_refused e = then_refused _ _ _ _ e ∙ rest
 
-      abbrev samples : List ℤ
-      samples = samples_of (part_of file (read_wave file))
-
-      pub part_few : length (part_of file (read_wave file)) / 2 ≤ 32768
-      unfolding part_of
-      part_few = go (read_wave file)
-        where
-          go : (o : Outcome Wave) → length (part_of file o) / 2 ≤ 32768
-          go (result w) = simp (length-take, length-drop) (omega arith)
-          go (refused n vs) = omega arith
+      pub part_few : (w : Wave) → length (part_in file w.samples) / 2 ≤ 32768
+      part_few w = simp (length-take, length-drop) (omega arith)
 
       -- the encoder has all the room that it needs
-      pub wave_encoded : (w : Wave) → result w ≡ read_wave file → (room : ℕ) → 335488 ≤ room → encode_call k samples w.channels w.rate room ≡ converted input
-      unfolding encode_wave
-      wave_encoded w e room enough =
-          let here : encode_whole k samples w.channels w.rate ≡ encode_wave k file = then_result (read_wave file) w _ _ e (rw (← e) refl) in
-          room_enough k samples w.channels w.rate (rw length_samples part_few) room enough ∙ here ∙ rest
+      pub wave_encoded : (w : Wave) → result w ≡ read_wave file → (room : ℕ) → 335488 ≤ room
+          → encode_call k (samples_of (part_in file w.samples)) w.channels w.rate room ≡ converted input
+      unfolding encode_wave part_of
+      wave_encoded w e room enough = room_enough k _ w.channels w.rate (rw length_samples (part_few w)) room enough ∙ then_result (read_wave file) w _ _ e refl ∙ rest
 
 module _ (d : List ℕ) where
   pub stream_too_long : 65536 < length d → refused 38 [] ≡ reported d

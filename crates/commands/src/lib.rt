@@ -4,21 +4,19 @@
 ghost use Rattle.std.specs.Prelude.{◌≡◌, ◌≤◌, ◌<◌, List, [], ℕ, length, take, IfSome, OnOk};
 ghost use Rattle.std.specs.Io.KnownBytes.{Appends};
 ghost use Rattle.outcome.specs.Outcome.{Outcome, refused};
+ghost use Rattle.outcome.specs.Table.{number_of, values_of, Gives};
 ghost use Rattle.io.specs.Counts.{IsPrefixLen};
 ghost use Rattle.text.specs.Text.{Put};
 ghost use Rattle.report_lines.specs.Lines.{refusal_line};
-ghost use Rattle.commands.specs.Refused as refusals;
-ghost use Rattle.commands.specs.Refused.{Gives};
 ghost use Rattle.commands.specs.Commands.{printed, converted, report, reported};
 
 use arrayvec::ArrayVec;
 use layout::Stream;
-use outcome::{Refusal, Values};
-use sqv4_format::{Error, Settings, Variant};
+use outcome::Error;
+use sqv4_format::{Settings, Variant};
 use std::io;
 use std::io::{Read, Write};
 use text::Printer;
-use wav_format::WaveError;
 
 // The most bytes that a program takes, and what it reads into: one byte more, so that a longer input is seen.
 pub const MOST: usize = 65536;
@@ -32,62 +30,12 @@ const SAMPLES: usize = MOST / 2;
 // The output is lent and its later places stay, so how many bytes of it are the answer comes back beside it.
 pub const ROOM: usize = 335488;
 
-// Why a program refuses: the size of its input, or what the codec or WAV reading refuses.
-#[derive(Clone, Copy)]
-pub enum Refused {
-    Size,
-    Codec(Error),
-    Wave(WaveError),
-}
-
-impl Refusal for Refused {
-    ghost number_of = { refusals.number_of };
-
-    ghost values_of = { refusals.values_of };
-
-    fn number(self) -> u8 {
-        match self {
-            Refused::Size => 38,
-            Refused::Codec(error) => error.number(),
-            Refused::Wave(error) => error.number(),
-        }
-    }
-
-    fn values(self) -> Values {
-        match self {
-            Refused::Size => Values::Zero,
-            Refused::Codec(error) => error.values(),
-            Refused::Wave(error) => error.values(),
-        }
-    }
-}
-
-impl From<Error> for Refused {
-    ghost use Rattle.commands.specs.declared.Refused.TheVariants.{Codec};
-
-    ghost from_gives = { λ error refusal. refusal ≡ Codec error };
-
-    fn from(error: Error) -> Refused {
-        Refused::Codec(error)
-    }
-}
-
-impl From<WaveError> for Refused {
-    ghost use Rattle.commands.specs.declared.Refused.TheVariants.{Wave};
-
-    ghost from_gives = { λ error refusal. refusal ≡ Wave error };
-
-    fn from(error: WaveError) -> Refused {
-        Refused::Wave(error)
-    }
-}
-
 // The line of a refusal, at the front of the output. The answer is how many bytes there are.
-fn put_refusal(refusal: Refused, out: &mut [u8; ROOM]) -> usize
-    ensures { Put out.old 0 (refusal_line (refusals.number_of refusal) (refusals.values_of refusal)) out.new result }
+fn put_refusal(error: Error, out: &mut [u8; ROOM]) -> usize
+    ensures { Put out.old 0 (refusal_line (number_of error) (values_of error)) out.new result }
 {
     let mut page = Printer::new(out);
-    report_lines::refusal_line(&mut page, refusal);
+    report_lines::refusal_line(&mut page, error);
     page.count()
 }
 
@@ -106,7 +54,7 @@ fn put_report(stream: &Stream, out: &mut [u8; ROOM]) -> usize
 }
 
 // The report on the stream that the input is, at the front of the output.
-fn inspect(input: &[u8], out: &mut [u8; ROOM]) -> Result<usize, Refused>
+fn inspect(input: &[u8], out: &mut [u8; ROOM]) -> Result<usize, Error>
     requires { length input.now ≤ 65536 }
     ensures { Gives (reported input.now) out.old result out.new }
 {
@@ -121,12 +69,12 @@ fn inspect(input: &[u8], out: &mut [u8; ROOM]) -> Result<usize, Refused>
 }
 
 // The stream that the input's variant byte, gain byte and WAV give, at the front of the output.
-fn encode(input: &[u8], out: &mut [u8; ROOM]) -> Result<usize, Refused>
+fn encode(input: &[u8], out: &mut [u8; ROOM]) -> Result<usize, Error>
     requires { length input.now ≤ 65536 }
     ensures { Gives (converted input.now) out.old result out.new }
 {
     let [variant, gain, file @ ..] = input else {
-        return Err(Refused::Size);
+        return Err(Error::InputSize);
     };
     let settings = Settings {
         variant: Variant::try_from(*variant)?,
@@ -134,14 +82,15 @@ fn encode(input: &[u8], out: &mut [u8; ROOM]) -> Result<usize, Refused>
     };
     let wave = wav::read_pcm16_wave(file)?;
     let mut pcm = [0i16; SAMPLES];
-    let count = wav_samples::load_samples(wav::wave_samples(file), &mut pcm)?;
+    let samples = parts::shown(file, wave.samples);
+    let count = wav_samples::load_samples(samples, &mut pcm)?;
     let channels = wave.channels as u8;
-    Ok(encoder::encode(settings, &pcm[..count], channels, wave.rate, out)?)
+    encoder::encode(settings, &pcm[..count], channels, wave.rate, out)
 }
 
 // What a command prints: the result that it gives for an input of at most MOST bytes, which is at the front of the output then, or the line
 // of a refusal. The answer is how many bytes there are.
-fn print<F: Fn(&[u8], &mut [u8; ROOM]) -> Result<usize, Refused>>(
+fn print<F: Fn(&[u8], &mut [u8; ROOM]) -> Result<usize, Error>>(
     input: &[u8],
     out: &mut [u8; ROOM],
     command: F,
@@ -152,11 +101,11 @@ fn print<F: Fn(&[u8], &mut [u8; ROOM]) -> Result<usize, Refused>>(
         → IsPrefixLen result out.new × Put out.old 0 (printed o) out.new result }
 {
     if MOST < input.len() {
-        return put_refusal(Refused::Size, out);
+        return put_refusal(Error::InputSize, out);
     }
     match command(input, out) {
         Ok(count) => count,
-        Err(refusal) => put_refusal(refusal, out),
+        Err(error) => put_refusal(error, out),
     }
 }
 

@@ -11,14 +11,15 @@ use Rattle.outcome.proofs.Laws.{met, clear, then_result, then_refused, on_result
 use Rattle.sqv4_format.specs.Layout.{frames}
 use Rattle.sqv4_format.specs.Decode.{decoded}
 use Rattle.sqv4_format.specs.Inspect.{Sound, inspected, decode_call}
-use Rattle.sqv4_format.specs.Answers.{number_of, values_of, refusal, AsDecoded}
+use Rattle.outcome.specs.Table.{refusal}
+use Rattle.sqv4_format.specs.Promises.{AsDecoded}
 use Rattle.sqv4_format.proofs.Agreement.{length-decoded}
 use Rattle.sqv4_format.specs.declared.Header.{Header}
-use Rattle.sqv4_format.specs.declared.Error.{Error}
+use Rattle.outcome.specs.declared.Error.{Error}
 use Rattle.std.specs.declared.result.Result.TheVariants.{Ok, Err}
 use Rattle.decoder.specs.Loops.{start_states, loop_out}
 use Rattle.decoder.proofs.DecodeLoop.{loop_decodes, fresh}
-use Rattle.sqv4_format.specs.declared.Error.TheVariants as E
+use Rattle.outcome.specs.declared.Error.TheVariants as E
 
 module _ (d : List ℕ) (out : List ℤ) where
   pub as_refused : (e : Error) → refusal e ≡ decode_call d (length out) → AsDecoded d out (Err e) out
@@ -33,7 +34,7 @@ module _ (d : List ℕ) (out : List ℤ) where
   module _ (h : Header) (q : result h ≡ inspected d) where
     -- the output is too short
     pub decode_short : length out < h.samples * h.channels → AsDecoded d out (Err (E.OutputTooShort (h.samples * h.channels))) out
-    unfolding decode_call number_of values_of
+    unfolding decode_call
     decode_short l = as_refused (E.OutputTooShort _) (then_result _ h _ _ q (met _ _ _ _ (lt-ltb _ _ l)))
 
     -- the loop has filled it

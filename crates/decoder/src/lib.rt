@@ -3,12 +3,13 @@
 
 ghost use Rattle.std.specs.Prelude.{◌≡◌, ℕ, ◌+◌, ◌*◌, ◌%◌, ◌<◌, ◌≤◌, List, ℤ, pos, length};
 ghost use Rattle.sqv4_format.specs.Layout.{frames};
-ghost use Rattle.sqv4_format.specs.Answers.{AsDecoded};
+ghost use Rattle.sqv4_format.specs.Promises.{AsDecoded};
 ghost use Rattle.decoder.specs.Loops.{spread, put_at, InStep, Decoding, start_states, loop_out};
 
 use decoder_fragment::Player;
 use layout::{Place, Stream};
-use sqv4_format::{Error, Header, Reached};
+use outcome::Error;
+use sqv4_format::{Header, Reached};
 
 // Internal: samples go to every CHANNELS-th place of the output, sample w to (first + w) * CHANNELS + channel. A constant, so that of one
 // channel eight samples are copied at a time; with a variable for two, stereo took a seventh longer.

@@ -9,30 +9,26 @@ use lib.IntN.{ℤ}
 use native.Mathlib.Omega.{arith}
 use lib.ListN.{length, take, drop, length-append, length-drop}
 use lib.Seq.{take_at, drop_at, drop-drop}
-use Rattle.std.specs.declared.result.Result.TheVariants.{Ok, Err}
-use Rattle.outcome.specs.Outcome.{Outcome, result, refuse_if, on_result, output_after}
-use Rattle.outcome.proofs.Laws.{met, clear, pass, on_result_lem, output_result}
+use Rattle.std.specs.declared.result.Result.TheVariants.{Ok}
+use Rattle.outcome.specs.Outcome.{Outcome, result, refuse_if}
+use Rattle.outcome.proofs.Laws.{met, clear, pass}
+use Rattle.outcome.proofs.Table.{gives_result}
 use Rattle.sqv4_format.specs.Layout.{encoder_version, channels_fit, fragment_size, header_bytes, frames, stream_length}
 use Rattle.sqv4_format.specs.Encode.{header_written, fragment_for, encoded, too_many, encode_call}
-use Rattle.sqv4_format.specs.Answers.{number_of, values_of, refusal, AsEncoded}
+use Rattle.outcome.specs.Table.{refusal, Gives}
 use Rattle.sqv4_format.proofs.Sizes.{length-header}
 use Rattle.sqv4_format.proofs.Encoder.{length_encoded}
 use Rattle.encoder.specs.Loops.{put_after}
 use Rattle.sqv4_format.specs.declared.Header.{Header}
 use Rattle.sqv4_format.specs.declared.Settings.{Settings}
-use Rattle.sqv4_format.specs.declared.Error.{Error}
-use Rattle.sqv4_format.specs.declared.Error.TheVariants as Errors
+use Rattle.outcome.specs.declared.Error.TheVariants as Errors
 
 module _ (k : Settings) (pcm : List ℤ) (channels rate : ℕ) (out : List ℕ) where
-  pub as_refused : (e : Error) → refusal e ≡ encode_call k pcm channels rate (length out) → AsEncoded k pcm channels rate out (Err e) out
-  unfolding on_result output_after
-  as_refused e q = record { answered = rw (← q); output_left = rw (← q) }
-
   -- the header is written, and the fragments behind it
   pub as_written : (n : ℕ) (h : Header) (headed r : List ℕ) → result (encoded k pcm channels rate) ≡ encode_call k pcm channels rate (length out)
       → h ≡ header_written k pcm channels rate → n ≡ stream_length h → headed ≡ header_bytes h ++ drop 16 out
       → r ≡ put_after (take 16 headed) 16 (fragment_for k pcm channels) (fragment_size encoder_version k.variant) headed (frames (header_written k pcm channels rate) * channels)
-      → AsEncoded k pcm channels rate out (Ok n) r
+      → Gives (encode_call k pcm channels rate (length out)) out (Ok n) r
   unfolding put_after encoded
   as_written n h headed r q eh en ed er =
       let w : Header = header_written k pcm channels rate in
@@ -42,11 +38,8 @@ module _ (k : Settings) (pcm : List ℤ) (channels rate : ℕ) (out : List ℕ) 
       let rest : drop (16 + tail) headed ≡ drop (16 + tail) out =
       sym (drop-drop tail 16 headed) ∙ ap (λ l. drop tail (drop 16 l)) ed ∙ ap (drop tail) (drop_at (header_bytes h) (drop 16 out) 16 (length-header h)) ∙ drop-drop tail 16 out in
       let long : length all ≡ 16 + tail = unfold header_written in (length_encoded k pcm channels rate) in
-      let e : encode_call k pcm channels rate (length out) ≡ result all = sym q in
-      record {
-        answered = ap result (en ∙ ap stream_length eh ∙ sym (length_encoded k pcm channels rate)) ∙ sym (on_result_lem length (encode_call k pcm channels rate (length out)) e);
-        output_left = er ∙ rw (front, rest) (ap (λ m. all ++ drop m out) (sym long)) ∙ sym (output_result _ all out e);
-      }
+      let count : n ≡ length all = en ∙ ap stream_length eh ∙ sym (length_encoded k pcm channels rate) in
+      gives_result all q count (er ∙ rw (front, rest) (ap (λ m. all ++ drop m out) (sym (count ∙ long))))
 
 -- the first four checks have passed: the output's room decides
 module _ (k : Settings) (pcm : List ℤ) (channels rate room : ℕ) (fit : channels_fit encoder_version channels ≡ true) (some : (rate ≡ 0 → ⊥))
@@ -61,7 +54,6 @@ module _ (k : Settings) (pcm : List ℤ) (channels rate room : ℕ) (fit : chann
       (clear _ _ _ _ _ (le-ltb _ _ few) e)))
 
   pub too_short : (n : ℕ) → n ≡ stream_length (header_written k pcm channels rate) → room < n → refusal (Errors.OutputTooShort n) ≡ encode_call k pcm channels rate room
-  unfolding number_of values_of
   too_short n e l = checked _ (rw e (met _ _ _ _ (lt-ltb _ _ (rw e at l))))
 
   pub long_enough : (n : ℕ) → n ≡ stream_length (header_written k pcm channels rate) → n ≤ room → result (encoded k pcm channels rate) ≡ encode_call k pcm channels rate room

@@ -3,14 +3,15 @@
 
 ghost use Rattle.std.specs.Prelude.{◌≡◌, ◌++◌, ◌+◌, ◌-◌, ◌*◌, ◌/◌, ◌<◌, ◌≤◌, pos, length, take, drop, get_or};
 ghost use Rattle.lists.specs.Lists.{tabulate};
+ghost use Rattle.outcome.specs.Table.{Gives};
 ghost use Rattle.sqv4_format.specs.Layout.{encoder_version, fragment_size, header_bytes, frames, stream_length};
-ghost use Rattle.sqv4_format.specs.Encode.{fragment_for, header_written};
-ghost use Rattle.sqv4_format.specs.Answers.{AsEncoded};
+ghost use Rattle.sqv4_format.specs.Encode.{fragment_for, header_written, encode_call};
 ghost use Rattle.encoder.specs.Loops.{put_after};
 
 use encoder_step::Coder;
 use layout::Place;
-use sqv4_format::{Error, Header, Settings, Variant};
+use outcome::Error;
+use sqv4_format::{Header, Settings, Variant};
 
 // The 16 bytes of a header, by the definition's name.
 fn header_bytes(h: Header) -> [u8; 16]
@@ -90,7 +91,7 @@ pub fn encode(
     rate: u32,
     out: &mut [u8],
 ) -> Result<usize, Error>
-    ensures { AsEncoded settings pcm.now channels rate out.old result out.new }
+    ensures { Gives (encode_call settings pcm.now channels rate (length out.old)) out.old result out.new }
 {
     let version = layout::version_for(channels);
     if !layout::channels_fit(version, channels) {
@@ -131,7 +132,7 @@ pub fn encode_interleaved(
     gain: u8,
     out: &mut [u8],
 ) -> Result<usize, Error>
-    ensures { AsEncoded (record { variant = variant; gain = gain }) pcm.now channels rate out.old result out.new }
+    ensures { Gives (encode_call (record { variant = variant; gain = gain }) pcm.now channels rate (length out.old)) out.old result out.new }
 {
     encode(Settings { variant, gain }, pcm, channels, rate, out)
 }

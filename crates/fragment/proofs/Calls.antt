@@ -8,10 +8,10 @@ use Rattle.std.specs.declared.result.Result.TheVariants.{Ok, Err}
 use Rattle.outcome.specs.Outcome.{result, on_result, output_after}
 use Rattle.outcome.proofs.Laws.{output_whole}
 use Rattle.sqv4_format.specs.Decode.{decoded_fragment, state_left, called}
-use Rattle.sqv4_format.specs.Answers.{AsCalled}
+use Rattle.sqv4_format.specs.Promises.{AsCalled}
 use Rattle.sqv4_format.specs.declared.Variant.{Variant}
 use Rattle.sqv4_format.specs.declared.State.{State}
-use Rattle.sqv4_format.specs.declared.Error.{Error}
+use Rattle.outcome.specs.declared.Error.{Error}
 use Rattle.sqv4_format.proofs.Range.{length-decoded}
 use Rattle.fragment.specs.Tried.{Filled, Refused}
 

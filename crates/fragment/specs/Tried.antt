@@ -2,10 +2,10 @@
 use Rattle.std.specs.Prelude.{◌≡◌, ℕ, List, ℤ, length}
 use Rattle.outcome.specs.Outcome.{result}
 use Rattle.sqv4_format.specs.Decode.{decoded_fragment, fragment_call}
-use Rattle.sqv4_format.specs.Answers.{refusal}
+use Rattle.outcome.specs.Table.{refusal}
 use Rattle.sqv4_format.specs.declared.Variant.{Variant}
 use Rattle.sqv4_format.specs.declared.State.{State}
-use Rattle.sqv4_format.specs.declared.Error.{Error}
+use Rattle.outcome.specs.declared.Error.{Error}
 
 -- the output holds the fragment's samples, and the state is the one after them
 pub record Filled (version : ℕ) (variant : Variant) (s : State) (fragment : List ℕ) (out new : List ℤ) (next : State) : Type 0 where

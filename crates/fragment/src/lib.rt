@@ -4,10 +4,11 @@
 ghost use Rattle.std.specs.Prelude.{◌≡◌, true, false, length, MatchResult};
 ghost use Rattle.sqv4_format.specs.Layout.{anew};
 ghost use Rattle.sqv4_format.specs.Decode.{fragment_fits, state_fits};
-ghost use Rattle.sqv4_format.specs.Answers.{AsCalled};
+ghost use Rattle.sqv4_format.specs.Promises.{AsCalled};
 ghost use Rattle.fragment.specs.Tried.{Filled, Refused};
 
-use sqv4_format::{Coded, Coding, Error, Reached, State, Variant};
+use outcome::Error;
+use sqv4_format::{Coded, Coding, Reached, State, Variant};
 
 // Whether the fragment has its size, and an output of `n` samples is not too long for it.
 #[tactic(auto, using(outcome::proofs::Laws::checks), unfolding(sqv4_format::specs::Decode::fragment_fits))]
@@ -31,7 +32,7 @@ fn usable(coding: Coding, state: State) -> Result<Reached, Error>
 }
 
 // The state after a fragment, whose samples fill the output; an error leaves the output as it was.
-#[tactic(auto, using(outcome::proofs::Laws::checks, sqv4_format::proofs::Range::fits_size, sqv4_format::proofs::Sizes::payload_few, sqv4_format::proofs::Range::returned_anew, fragment_plain::proofs::Fragments::samples_anew), unfolding(sqv4_format::specs::Decode::fragment_call, sqv4_format::specs::Answers::number_of, sqv4_format::specs::Answers::values_of))]
+#[tactic(auto, using(outcome::proofs::Laws::checks, sqv4_format::proofs::Range::fits_size, sqv4_format::proofs::Sizes::payload_few, sqv4_format::proofs::Range::returned_anew, fragment_plain::proofs::Fragments::samples_anew), unfolding(sqv4_format::specs::Decode::fragment_call))]
 fn decode(coding: Coding, state: State, fragment: &[u8], out: &mut [i16]) -> Result<State, Error>
     ensures { MatchResult result (Filled coding.version coding.variant state fragment.now out.old out.new)
         (Refused coding.version coding.variant state fragment.now out.old out.new) }

@@ -5,10 +5,11 @@ ghost use Rattle.std.specs.Prelude.{◌≡◌, ◌*◌, ◌/◌, ◌≤◌, leng
 ghost use Rattle.outcome.specs.Outcome.{in_order};
 ghost use Rattle.sqv4_format.specs.Layout.{header_of, frames, fragment_at_place};
 ghost use Rattle.sqv4_format.specs.Inspect.{same_letters, field_checks, header_checks, fragment_checks, inspected};
-ghost use Rattle.sqv4_format.specs.Answers.{answered};
+ghost use Rattle.outcome.specs.Table.{answered};
 
 use layout::{Place, Stream};
-use sqv4_format::{Coded, Error, Header, State, Variant};
+use outcome::Error;
+use sqv4_format::{Coded, Header, State, Variant};
 
 // Internal: whether the first four bytes are "SQV4".
 #[tactic(auto, using(lists::proofs::Letters::letters_equal), unfolding(sqv4_format::specs::Inspect::same_letters))]
@@ -35,7 +36,7 @@ fn header_of(file: &[u8], variant: Variant) -> Header
 }
 
 // Internal: the checks 1, 9, 2, 10, in this order.
-#[tactic(auto, using(outcome::proofs::Laws::checks), unfolding(sqv4_format::specs::Inspect::field_checks, sqv4_format::specs::Answers::number_of, sqv4_format::specs::Answers::values_of))]
+#[tactic(auto, using(outcome::proofs::Laws::checks), unfolding(sqv4_format::specs::Inspect::field_checks))]
 fn field_checks(file: &[u8], h: Header) -> Result<Header, Error>
     requires { 16 ≤ length file.now }
     ensures { answered result ≡ field_checks file.now h }
@@ -61,7 +62,7 @@ fn field_checks(file: &[u8], h: Header) -> Result<Header, Error>
 }
 
 // The checks 5, 6, 7, 8, then 1, 9, 2, 10.
-#[tactic(auto, using(outcome::proofs::Laws::checks), unfolding(outcome::specs::Outcome::and_then, sqv4_format::specs::Inspect::header_checks, sqv4_format::specs::Answers::number_of, sqv4_format::specs::Answers::values_of))]
+#[tactic(auto, using(outcome::proofs::Laws::checks), unfolding(outcome::specs::Outcome::and_then, sqv4_format::specs::Inspect::header_checks))]
 fn header_checks(file: &[u8]) -> Result<Header, Error>
     ensures { answered result ≡ header_checks file.now }
 {
@@ -80,7 +81,7 @@ fn header_checks(file: &[u8]) -> Result<Header, Error>
 }
 
 // The checks 11 and 12 of the fragment at a place.
-#[tactic(auto, using(outcome::proofs::Laws::checks), unfolding(sqv4_format::specs::Inspect::fragment_checks, sqv4_format::specs::Inspect::index_too_high, sqv4_format::specs::Inspect::unused_zero, sqv4_format::specs::Answers::number_of, sqv4_format::specs::Answers::values_of))]
+#[tactic(auto, using(outcome::proofs::Laws::checks), unfolding(sqv4_format::specs::Inspect::fragment_checks, sqv4_format::specs::Inspect::index_too_high, sqv4_format::specs::Inspect::unused_zero))]
 fn fragment_checks(place: Place, fragment: &Coded) -> Result<Header, Error>
     ensures { answered result ≡ fragment_checks place.header (place.p / place.header.channels) fragment.now.bytes.now }
 {

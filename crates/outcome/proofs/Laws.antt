@@ -1,5 +1,5 @@
 -- How a chain of checks is followed, and what a call leaves of its output. Assumes nothing.
-use mathlib.Core.Path.{◌≡◌, refl, ◌∙◌, ap}
+use mathlib.Core.Path.{◌≡◌, refl, ◌∙◌}
 use Prim.Native.Nat.{ℕ, zero, suc, ◌<◌}
 use native.Mathlib.Omega.{arith}
 use native.Mathlib.Decide.{ℕ_discrete}
@@ -8,12 +8,7 @@ use mathlib.Core.List.{List, ◌++◌, append-nil}
 use lib.ListN.{length, drop}
 use lib.Seq.{drop-length}
 use borrow.Author.Tests.{lt-ltb, le-ltb, lt-leb, le-leb, eq-eqb, ne_eqb, not-true, not-false}
-use Rattle.std.specs.Result.{IsErrAnd}
-use Rattle.std.specs.declared.result.Result.{Result}
-use Rattle.std.specs.declared.result.Result.TheVariants.{Ok, Err}
-use Rattle.outcome.specs.Outcome.{Outcome, result, refused, outcome_of, listed, refuse_if, need, branch, and_then, on_result, in_order, output_after, Refuses, Refusing}
-use Rattle.outcome.specs.declared.Values.{Values}
-use Rattle.outcome.specs.declared.Values.TheVariants.{Zero, One, Two}
+use Rattle.outcome.specs.Outcome.{Outcome, result, refused, refuse_if, need, branch, and_then, on_result, in_order, output_after, Refuses, Refusing}
 use Rattle.outcome.proofs.Flags.{not_both, via}
 
 -- ---- one check, from an answer: the ruleset `checks` closes each return of a function that makes the checks of a chain
@@ -171,31 +166,3 @@ module _ {A : Type 0} where
   unfolding output_after on_result Refuses
   output_refused f (result b) out w = absurd w
   output_refused f (refused n vs) out w = refl
-
--- ---- no two answers of the code have the same reading, where no two errors have the same number and returned numbers
-
-pub answer_once : {A E : Type 0} (number : E → ℕ) (values : E → List ℕ)
-    → ((e f : E) → number e ≡ number f → values e ≡ values f → e ≡ f)
-    → (r s : Result A E) → outcome_of number values r ≡ outcome_of number values s → r ≡ s
-answer_once number values once (Ok a) (Ok b) e = cc
-answer_once number values once (Ok a) (Err f) e = cc
-answer_once number values once (Err f) (Ok b) e = cc
-answer_once number values once (Err f) (Err g) e = ap Err (once f g (cc) (cc))
-
-pub listed_once : (v w : Values) → listed v ≡ listed w → v ≡ w
-listed_once Zero Zero e = cc
-listed_once Zero (One a) e = cc
-listed_once Zero (Two a b) e = cc
-listed_once (One a) Zero e = cc
-listed_once (One a) (One c) e = cc
-listed_once (One a) (Two c d) e = cc
-listed_once (Two a b) Zero e = cc
-listed_once (Two a b) (One c) e = cc
-listed_once (Two a b) (Two c d) e = cc
-
--- ---- a `?` passes an error on as it is
-
-pub passed_on : {A E : Type 0} (number : E → ℕ) (values : E → List ℕ) (r : Result A E) (e : E) (o : Outcome A)
-    → IsErrAnd r (λ f. f ≡ e) → refused (number e) (values e) ≡ o → outcome_of number values r ≡ o
-passed_on number values (Ok a) e o h k = absurd h
-passed_on number values (Err f) e o h k = rw h k

@@ -1,25 +1,10 @@
 -- What a call gives, how a list of checks decides it, and what a lent output holds after it. Assumes nothing.
-use Rattle.std.specs.Prelude.{ℕ, zero, suc, Bool, true, false, List, [], ◌∷◌, ◌++◌, length, drop}
-use Rattle.std.specs.declared.result.Result.{Result}
-use Rattle.std.specs.declared.result.Result.TheVariants.{Ok, Err}
-use Rattle.outcome.specs.declared.Values.{Values}
-use Rattle.outcome.specs.declared.Values.TheVariants.{Zero, One, Two}
+use Rattle.std.specs.Prelude.{ℕ, zero, suc, Bool, true, false, List, ◌++◌, length, drop}
 
--- a result, or a refusal: its number in 01's table and the numbers returned with it
+-- a result, or a refusal: its number in the table of refusals and the numbers returned with it
 pub data Outcome (A : Type 0) : Type 0 where
   result : A → Outcome A
   refused : ℕ → List ℕ → Outcome A
-
--- what the code answers, read as what the call gives, by the number and the returned numbers of each error
-abbrev pub outcome_of : {A E : Type 0} → (E → ℕ) → (E → List ℕ) → Result A E → Outcome A
-outcome_of number values (Ok a) = result a
-outcome_of number values (Err e) = refused (number e) (values e)
-
--- returned numbers, as the code gives them
-abbrev pub listed : Values → List ℕ
-listed Zero = []
-listed (One a) = a ∷ []
-listed (Two a b) = a ∷ b ∷ []
 
 -- a line of the table: where the cause holds, its refusal, and else the rest
 unfoldable pub refuse_if : {A : Type 0} → Bool → ℕ → List ℕ → Outcome A → Outcome A

@@ -16,7 +16,7 @@ use Rattle.sqv4_format.specs.declared.Variant.{Variant}
 use Rattle.sqv4_format.specs.declared.Variant.TheVariants.{H, L, LPlus}
 use Rattle.sqv4_format.specs.declared.Header.{Header}
 use Rattle.sqv4_format.specs.declared.State.{State}
-use Rattle.wav_format.specs.declared.Part.{Part}
+use Rattle.parts.specs.declared.Part.{Part}
 use Rattle.postlapse.specs.Answers.{answer_of, header_answer_of, wave_answer_of, with_state}
 use Rattle.postlapse.specs.Promises.{encode_for_c, fragment_for_c, Fills, Decodes, Plays, PlaysByValue}
 use Rattle.postlapse.specs.declared.Answer.{Answer}

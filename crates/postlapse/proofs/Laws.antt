@@ -11,14 +11,11 @@ use Rattle.std.specs.declared.result.Result.TheVariants.{Ok, Err}
 use Rattle.outcome.specs.Outcome.{Outcome, result, refused, and_then, on_result, output_after}
 use Rattle.sqv4_format.specs.Layout.{variant_of, anew}
 use Rattle.sqv4_format.specs.Decode.{DecodedFragment, fragment_call, state_left, moves}
-use Rattle.sqv4_format.specs.Answers.{answered}
-use Rattle.sqv4_format.specs.declared.Error.{Error}
+use Rattle.outcome.specs.Table.{answered}
+use Rattle.outcome.specs.declared.Error.{Error}
 use Rattle.sqv4_format.specs.declared.State.{State}
 use Rattle.sqv4_format.specs.declared.Variant.{Variant}
 use Rattle.sqv4_format.proofs.Range.{unmoved}
-use Rattle.wav_format.specs.Answers.{values_of}
-use Rattle.wav_format.specs.declared.WaveError.{WaveError}
-use Rattle.wav_format.specs.declared.WaveError.TheVariants.{NotWave, RiffEnd, ChunkHeader, ChunkEnd, FormatChunk, DataChunk, NoFormat, Encoding, Channels, ZeroRate, ByteRate, Inconsistent, NoData, PartialFrame, WriterChannels, DataSize, RiffSize, WriterByteRate, OutputTooShort, StrictFormat, StrictOrder, StrictEnd}
 use Rattle.postlapse.specs.Answers.{answer_of}
 use Rattle.postlapse.specs.Promises.{fragment_for_c, Plays, PlaysAs}
 use Rattle.postlapse.specs.declared.Answer.{Answer}
@@ -75,30 +72,3 @@ plays_unmoved version variant s fragment n p e =
     go : (o : Outcome Variant) → moves version (and_then o call) ≡ false → state_left s (and_then o call) ≡ s
     go (result v) e = unmoved version v s fragment n e
     go (refused m vs) e = refl
-
--- ---- WAV: only one cause returns a number
-
-pub no_number_but : (e : WaveError) → ((n : ℕ) → e ≡ OutputTooShort n → ⊥) → values_of e ≡ []
-unfolding values_of
-no_number_but NotWave k = refl
-no_number_but RiffEnd k = refl
-no_number_but ChunkHeader k = refl
-no_number_but ChunkEnd k = refl
-no_number_but FormatChunk k = refl
-no_number_but DataChunk k = refl
-no_number_but NoFormat k = refl
-no_number_but Encoding k = refl
-no_number_but Channels k = refl
-no_number_but ZeroRate k = refl
-no_number_but ByteRate k = refl
-no_number_but Inconsistent k = refl
-no_number_but NoData k = refl
-no_number_but PartialFrame k = refl
-no_number_but WriterChannels k = refl
-no_number_but DataSize k = refl
-no_number_but RiffSize k = refl
-no_number_but WriterByteRate k = refl
-no_number_but StrictFormat k = refl
-no_number_but StrictOrder k = refl
-no_number_but StrictEnd k = refl
-no_number_but (OutputTooShort n) k = absurd (k n refl)

@@ -2,10 +2,10 @@
 #![tactic(auto)]
 
 ghost use Rattle.std.specs.Prelude.{◌≡◌, length};
-ghost use Rattle.outcome.specs.Outcome.{outcome_of, refused, on_result, output_after};
+ghost use Rattle.outcome.specs.Outcome.{on_result, output_after};
 ghost use Rattle.sqv4_format.specs.Decode.{moves};
 ghost use Rattle.sqv4_format.specs.Inspect.{inspected, decode_call};
-ghost use Rattle.sqv4_format.specs.Answers.{answered};
+ghost use Rattle.outcome.specs.Table.{refusal, answered};
 ghost use Rattle.wav_format.specs.Samples.{samples_call};
 ghost use Rattle.wav_format.specs.Wave.{read_wave, read_strict};
 ghost use Rattle.wav_writer.specs.Writer.{write_call};
@@ -13,8 +13,8 @@ ghost use Rattle.postlapse.specs.Answers.{answer_of, header_answer_of, wave_answ
 ghost use Rattle.postlapse.specs.Promises.{encode_for_c, fragment_for_c, Fills, Decodes, Plays, PlaysAs, PlaysByValue};
 
 use fragment::Returned;
-use outcome::{Refusal, Values};
-use sqv4_format::{Error, Header, State, Variant};
+use outcome::{Error, ReturnedNumbers};
+use sqv4_format::{Header, State, Variant};
 use wav_format::Wave;
 
 // A count, or a refusal: 0 and how many bytes or samples were written; or the number in 01's table and its returned numbers, 0 where
@@ -67,21 +67,21 @@ pub struct FragmentAnswer {
 
 // A refusal.
 #[tactic(auto, unfolding(crate::specs::Answers::answer_of))]
-fn refused<E: Refusal>(error: E) -> Answer
-    ensures { result ≡ answer_of (refused (E.number_of error) (E.values_of error)) }
+fn refused(error: Error) -> Answer
+    ensures { result ≡ answer_of (refusal error) }
 {
     let refusal = error.number() as usize;
     match error.values() {
-        Values::Zero => Answer {
+        ReturnedNumbers::Zero => Answer {
             refusal,
             ..Answer::default()
         },
-        Values::One(first) => Answer {
+        ReturnedNumbers::One(first) => Answer {
             refusal,
             first,
             ..Answer::default()
         },
-        Values::Two(first, second) => Answer {
+        ReturnedNumbers::Two(first, second) => Answer {
             refusal,
             first,
             second,
@@ -89,11 +89,11 @@ fn refused<E: Refusal>(error: E) -> Answer
     }
 }
 
-impl<E: Refusal> From<Result<usize, E>> for Answer {
-    ghost from_gives = { λ given answer. answer ≡ answer_of (outcome_of E.number_of E.values_of given) };
+impl From<Result<usize, Error>> for Answer {
+    ghost from_gives = { λ given answer. answer ≡ answer_of (answered given) };
 
     #[tactic(auto, unfolding(crate::specs::Answers::answer_of))]
-    fn from(given: Result<usize, E>) -> Answer {
+    fn from(given: Result<usize, Error>) -> Answer {
         match given {
             Ok(first) => Answer {
                 first,
@@ -104,11 +104,11 @@ impl<E: Refusal> From<Result<usize, E>> for Answer {
     }
 }
 
-impl<E: Refusal> From<Result<Header, E>> for HeaderAnswer {
-    ghost from_gives = { λ given answer. answer ≡ header_answer_of (outcome_of E.number_of E.values_of given) };
+impl From<Result<Header, Error>> for HeaderAnswer {
+    ghost from_gives = { λ given answer. answer ≡ header_answer_of (answered given) };
 
     #[tactic(auto, unfolding(crate::specs::Answers::answer_of, crate::specs::Answers::header_answer_of))]
-    fn from(given: Result<Header, E>) -> HeaderAnswer {
+    fn from(given: Result<Header, Error>) -> HeaderAnswer {
         match given {
             Ok(header) => {
                 let variant = u8::from(header.variant);
@@ -134,11 +134,11 @@ impl<E: Refusal> From<Result<Header, E>> for HeaderAnswer {
     }
 }
 
-impl<E: Refusal> From<Result<Wave, E>> for WaveAnswer {
-    ghost from_gives = { λ given answer. answer ≡ wave_answer_of (outcome_of E.number_of E.values_of given) };
+impl From<Result<Wave, Error>> for WaveAnswer {
+    ghost from_gives = { λ given answer. answer ≡ wave_answer_of (answered given) };
 
     #[tactic(auto, unfolding(crate::specs::Answers::wave_answer_of))]
-    fn from(given: Result<Wave, E>) -> WaveAnswer {
+    fn from(given: Result<Wave, Error>) -> WaveAnswer {
         match given {
             Ok(wave) => WaveAnswer {
                 channels: wave.channels,

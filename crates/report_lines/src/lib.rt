@@ -3,26 +3,26 @@
 #![tactic(auto)]
 
 ghost use Rattle.std.specs.Prelude.{◌≡◌, ◌*◌, ◌<◌, ◌≤◌, length};
-ghost use Rattle.outcome.specs.Outcome.{listed};
+ghost use Rattle.outcome.specs.Table.{number_of, values_of, listed};
 ghost use Rattle.sqv4_format.specs.Layout.{frames};
 ghost use Rattle.text.specs.Printer.{Printed};
 ghost use Rattle.report_lines.specs.Lines.{refusal_line, spaced_values, variant_name, header_line, index_field, fragment_line};
 
 use layout::Stream;
-use outcome::{Refusal, Values};
+use outcome::{Error, ReturnedNumbers};
 use sqv4_format::{Coded, Coding, Header, Variant};
 use text::Printer;
 
 // The numbers that a refusal returns, each after a space.
 #[tactic(auto, using(text::proofs::Laws::printed_none, text::proofs::Laws::then_printed, crate::proofs::Lines::no_values, crate::proofs::Lines::one_value, crate::proofs::Lines::two_values), unfolding(crate::specs::Lines::spaced_values, text::specs::Text::letters))]
-fn values(page: &mut Printer, values: Values)
+fn values(page: &mut Printer, values: ReturnedNumbers)
     ensures prints { Printed page.old (spaced_values (listed values)) page.new }
     ensures short { length (spaced_values (listed values)) ≤ 42 }
 {
     match values {
-        Values::Zero => {}
-        Values::One(first) => page.field(b" ", first as u64),
-        Values::Two(first, second) => {
+        ReturnedNumbers::Zero => {}
+        ReturnedNumbers::One(first) => page.field(b" ", first as u64),
+        ReturnedNumbers::Two(first, second) => {
             page.field(b" ", first as u64);
             page.field(b" ", second as u64);
         }
@@ -31,12 +31,12 @@ fn values(page: &mut Printer, values: Values)
 
 // The line of a refusal.
 #[tactic(auto, using(crate::proofs::Lines::refusal_few))]
-pub fn refusal_line<E: Refusal>(page: &mut Printer, refusal: E)
-    ensures prints { Printed page.old (refusal_line (E.number_of refusal) (E.values_of refusal)) page.new }
-    ensures short { length (refusal_line (E.number_of refusal) (E.values_of refusal)) ≤ 128 }
+pub fn refusal_line(page: &mut Printer, error: Error)
+    ensures prints { Printed page.old (refusal_line (number_of error) (values_of error)) page.new }
+    ensures short { length (refusal_line (number_of error) (values_of error)) ≤ 128 }
 {
-    page.field(b"refused ", refusal.number() as u64);
-    values(page, refusal.values());
+    page.field(b"refused ", error.number() as u64);
+    values(page, error.values());
     page.word(b"\n");
 }
 

@@ -24,13 +24,11 @@ use Rattle.sqv4_format.specs.Calls.{Call, Listed, InStream, Separate}
 use Rattle.sqv4_format.specs.Tests.{is_state, ample, settings, encodes, encode_refused, inspects, inspect_refused, decodes, decode_refused, plays, steps}
 use Rattle.sqv4_format.specs.Cases.{cases, further}
 use Rattle.sqv4_format.specs.Refusals.{pinned}
-use Rattle.sqv4_format.specs.Answers.{number_of, values_of}
 use Rattle.sqv4_format.proofs as proofs
 use Rattle.sqv4_format.specs.declared.Variant.{Variant}
 use Rattle.sqv4_format.specs.declared.State.{State}
 use Rattle.sqv4_format.specs.declared.Header.{Header}
 use Rattle.sqv4_format.specs.declared.Settings.{Settings}
-use Rattle.sqv4_format.specs.declared.Error.{Error}
 
 -- ---- worked cases
 
@@ -125,10 +123,6 @@ pub gain_moves : (g : ℕ) (samples : List ℤ) (i : ℕ) → g ≤ 255 → ((j 
 gain_moves = proofs.Gain.gain_stage
 
 -- ---- answers
-
--- no two refusals have the same number and returned numbers
-pub refusals_differ : (a b : Error) → number_of a ≡ number_of b → values_of a ≡ values_of b → a ≡ b
-refusals_differ = proofs.Answers.error_once
 
 -- what the table does not refuse is encoded: 1 or 2 channels, a rate, whole frames, at most 4,294,967,295 samples a channel, and room
 pub encode_accepts : (k : Settings) (pcm : List ℤ) (channels rate room : ℕ) → 0 < channels → channels ≤ 2 → 0 < rate → length pcm % channels ≡ 0

@@ -7,7 +7,7 @@ pub mod Trials
 pub mod Encoder
 pub mod Agreement
 pub mod Gain
-pub mod Answers
+pub mod Variants
 pub mod Checks
 pub mod Tests
 pub mod Claims

@@ -17,7 +17,6 @@ use Rattle.sqv4_format.specs.Decode.{zero_state, channel_sample, decoded, fragme
 use Rattle.sqv4_format.specs.Encode.{channel, header_written, encoded, encode_call}
 use Rattle.sqv4_format.specs.Inspect.{Sound, inspected, decode_call}
 use Rattle.sqv4_format.specs.Calls.{Separate}
-use Rattle.sqv4_format.specs.Answers.{refusal}
 use Rattle.sqv4_format.proofs.Agreement.{sample_ext}
 use Rattle.sqv4_format.proofs.Encoder.{length-channel}
 use Rattle.sqv4_format.proofs.Instance as here
@@ -25,7 +24,6 @@ use Rattle.sqv4_format.proofs.Claims as claims
 use Rattle.sqv4_format.specs.declared.Variant.{Variant}
 use Rattle.sqv4_format.specs.declared.Header.{Header}
 use Rattle.sqv4_format.specs.declared.Settings.{Settings}
-use Rattle.sqv4_format.specs.declared.Error.{Error}
 
 -- ---- demand 3, from samples to samples
 
@@ -136,9 +134,6 @@ decoded_is_inspected d room x e = go (inspected d) refl
     go : (o : Outcome Header) → inspected d ≡ o → (h : Header) × (inspected d ≡ result h)
     go (result h) i = (h, i)
     go (refused n vs) i = absurd (one_way (sym (claims.decode_refuses d room n vs i) ∙ e))
-
-pub refusal_once : (a b : Error) → refusal {A = ℕ} a ≡ refusal b → a ≡ b
-refusal_once a b e = claims.refusals_differ a b (cc) (cc)
 
 -- ---- rounding and gain
 

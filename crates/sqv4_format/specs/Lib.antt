@@ -6,7 +6,7 @@ pub mod Decode
 pub mod Encode
 pub mod Inspect
 pub mod Calls
-pub mod Answers
+pub mod Promises
 pub mod Tests
 pub mod Compute
 pub mod Cases

@@ -1,13 +1,13 @@
-// The types of SQV4: variant, decoder state, header, the encoder's settings, and what the calls answer. The rules of 01 stand as
+// The types of SQV4: variant, decoder state, header, and the encoder's settings. The rules of 01 stand as
 // definitions in specs/, and what is proved of them is listed in proofs/Claims.antt.
 #![tactic(auto)]
 
 ghost use Rattle.std.specs.Prelude.{◌≡◌, ◌≤◌, true, false, length, MatchOption};
 ghost use Rattle.sqv4_format.specs.Layout.{encoder_version, known_version, anew, bits, payload_bytes, prefix, fragment_size, frame_samples, volume_byte, index_byte, payload, variant_byte, variant_of};
 ghost use Rattle.sqv4_format.specs.Decode.{zero_state, fragment_start, InRange};
-ghost use Rattle.sqv4_format.specs.Answers as answers;
+ghost use Rattle.outcome.specs.Table.{answered};
 
-use outcome::{Refusal, Values};
+use outcome::Error;
 
 // The version that the encoder writes.
 pub const VERSION: u8 = 3;
@@ -67,9 +67,9 @@ impl From<Variant> for u8 {
 impl TryFrom<u8> for Variant {
     type Error = Error;
 
-    ghost try_from_gives = { λ byte answer. answers.answered answer ≡ variant_of byte };
+    ghost try_from_gives = { λ byte answer. answered answer ≡ variant_of byte };
 
-    #[tactic(auto, using(crate::proofs::Answers::no_variant), unfolding(crate::specs::Layout::variant_of))]
+    #[tactic(auto, using(crate::proofs::Variants::no_variant), unfolding(crate::specs::Layout::variant_of))]
     fn try_from(byte: u8) -> Result<Variant, Error> {
         match byte {
             0 => Ok(Variant::H),
@@ -248,7 +248,7 @@ impl Reached {
 impl TryFrom<State> for Reached {
     ghost use Rattle.std.specs.Prelude.{◌&&◌, leb, MatchResult};
     ghost use Rattle.std.specs.Int.Signed.{mag};
-    ghost use Rattle.sqv4_format.specs.declared.Error.TheVariants.{InvalidState};
+    ghost use Rattle.outcome.specs.declared.Error.TheVariants.{InvalidState};
 
     type Error = Error;
 
@@ -291,75 +291,4 @@ impl Header {
 pub struct Settings {
     pub variant: Variant,
     pub gain: u8,
-}
-
-// Why a call refuses. specs/Answers.antt gives each case its number and returned numbers.
-#[derive(Clone, Copy)]
-pub enum Error {
-    InvalidChannels(u8),
-    ZeroSampleRate,
-    MisalignedInterleavedSamples,
-    TooManySamples,
-    InvalidVariant(u8),
-    TruncatedHeader,
-    InvalidMagic,
-    UnsupportedVersion(u8),
-    InvalidReservedByte(u8),
-    InvalidFileLength { expected: usize, actual: usize },
-    InvalidStepIndex(u8),
-    NonZeroPadding,
-    OutputTooShort(usize),
-    InvalidFragment,
-    InvalidState,
-}
-
-impl Refusal for Error {
-    ghost number_of = { answers.number_of };
-
-    ghost values_of = { answers.values_of };
-
-    #[tactic(auto, unfolding(crate::specs::Answers::number_of))]
-    fn number(self) -> u8 {
-        match self {
-            Error::InvalidChannels(_) => 1,
-            Error::ZeroSampleRate => 2,
-            Error::MisalignedInterleavedSamples => 3,
-            Error::TooManySamples => 4,
-            Error::InvalidVariant(_) => 8,
-            Error::TruncatedHeader => 5,
-            Error::InvalidMagic => 6,
-            Error::UnsupportedVersion(_) => 7,
-            Error::InvalidReservedByte(_) => 9,
-            Error::InvalidFileLength {
-                expected: _,
-                actual: _,
-            } => 10,
-            Error::InvalidStepIndex(_) => 11,
-            Error::NonZeroPadding => 12,
-            Error::OutputTooShort(_) => 13,
-            Error::InvalidFragment => 14,
-            Error::InvalidState => 15,
-        }
-    }
-
-    #[tactic(auto, unfolding(crate::specs::Answers::values_of))]
-    fn values(self) -> Values {
-        match self {
-            Error::InvalidChannels(byte)
-            | Error::InvalidVariant(byte)
-            | Error::UnsupportedVersion(byte)
-            | Error::InvalidReservedByte(byte)
-            | Error::InvalidStepIndex(byte) => Values::One(byte as usize),
-            Error::InvalidFileLength { expected, actual } => Values::Two(expected, actual),
-            Error::OutputTooShort(needed) => Values::One(needed),
-            Error::ZeroSampleRate
-            | Error::MisalignedInterleavedSamples
-            | Error::TooManySamples
-            | Error::TruncatedHeader
-            | Error::InvalidMagic
-            | Error::NonZeroPadding
-            | Error::InvalidFragment
-            | Error::InvalidState => Values::Zero,
-        }
-    }
 }

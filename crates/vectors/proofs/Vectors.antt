@@ -3,7 +3,7 @@ use mathlib.Core.List.{[], ◌∷◌}
 use lib.Dec.{T}
 use lib.IntN.{pos, negsuc}
 use Rattle.sqv4_format.specs.Compute.{computing}
-use Rattle.sqv4_format.specs.Tests.{encodes, encode_refused, inspects, inspect_refused, decodes, decode_refused, plays, steps}
+use Rattle.sqv4_format.specs.Tests.{encodes, decodes, decode_refused, plays}
 use Rattle.sqv4_format.specs.declared.Variant.TheVariants.{H, L, LPlus}
 
 vector1 : T (encodes H 255 1 8000 (pos 199 ∷ pos 23 ∷ negsuc 3 ∷ pos 0 ∷ pos 133 ∷ pos 78 ∷ pos 96 ∷ pos 187 ∷

@@ -3,43 +3,44 @@
 
 ghost use Rattle.std.specs.Prelude.{◌≡◌};
 ghost use Rattle.wav_format.specs.Wave.{check_format, check_chunks, check_strict};
-ghost use Rattle.wav_format.specs.Answers.{answered};
+ghost use Rattle.outcome.specs.Table.{answered};
 
-use wav_format::{Chunks, Format, Wave, WaveError};
+use outcome::Error;
+use wav_format::{Chunks, Format, Wave};
 
 // The checks 27 to 31, on the fields of the fmt chunk. The answer is a frame's bytes.
-#[tactic(auto, using(outcome::proofs::Laws::checks), unfolding(wav_format::specs::Wave::check_format, wav_format::specs::Wave::pcm16, wav_format::specs::Wave::consistent, wav_format::specs::Answers::number_of, wav_format::specs::Answers::values_of))]
-fn check_format(f: Format) -> Result<usize, WaveError>
+#[tactic(auto, using(outcome::proofs::Laws::checks), unfolding(wav_format::specs::Wave::check_format, wav_format::specs::Wave::pcm16, wav_format::specs::Wave::consistent))]
+fn check_format(f: Format) -> Result<usize, Error>
     ensures { answered result
         ≡ check_format f.encoding f.channels f.rate f.byte_rate f.align f.bits }
 {
     if f.encoding != 1 || f.bits != 16 {
-        return Err(WaveError::Encoding);
+        return Err(Error::Encoding);
     }
     if !wav_format::one_or_two(f.channels) {
-        return Err(WaveError::Channels);
+        return Err(Error::WaveChannels);
     }
     if f.rate == 0 {
-        return Err(WaveError::ZeroRate);
+        return Err(Error::ZeroWaveRate);
     }
     let frame = wav_format::frame_bytes(f.channels);
-    let byte_rate = f.rate.checked_mul(frame).ok_or(WaveError::ByteRate)?;
+    let byte_rate = f.rate.checked_mul(frame).ok_or(Error::ByteRate)?;
     if f.align as u32 != frame || f.byte_rate != byte_rate {
-        return Err(WaveError::Inconsistent);
+        return Err(Error::Inconsistent);
     }
     Ok(frame as usize)
 }
 
 // The checks 26 to 33, after the walk.
-#[tactic(auto, using(outcome::proofs::Laws::checks, wav_format::proofs::Steps::frame_some), unfolding(outcome::specs::Outcome::and_then, wav_format::specs::Wave::found, wav_format::specs::Wave::check_chunks, wav_format::specs::Wave::check_data, wav_format::specs::Answers::number_of, wav_format::specs::Answers::values_of))]
-pub fn check_chunks(end: usize, c: Chunks) -> Result<Wave, WaveError>
+#[tactic(auto, using(outcome::proofs::Laws::checks, wav_format::proofs::Steps::frame_some), unfolding(outcome::specs::Outcome::and_then, wav_format::specs::Wave::found, wav_format::specs::Wave::check_chunks, wav_format::specs::Wave::check_data))]
+pub fn check_chunks(end: usize, c: Chunks) -> Result<Wave, Error>
     ensures { answered result ≡ check_chunks end c }
 {
-    let f = c.format.ok_or(WaveError::NoFormat)?;
+    let f = c.format.ok_or(Error::NoFormat)?;
     let frame = check_format(f)?;
-    let samples = c.samples.ok_or(WaveError::NoData)?;
+    let samples = c.samples.ok_or(Error::NoData)?;
     if samples.size % frame != 0 {
-        return Err(WaveError::PartialFrame);
+        return Err(Error::PartialFrame);
     }
     Ok(Wave {
         channels: f.channels,
@@ -51,18 +52,18 @@ pub fn check_chunks(end: usize, c: Chunks) -> Result<Wave, WaveError>
 }
 
 // The checks 40 to 42, on a file that plain reading accepts.
-#[tactic(auto, using(outcome::proofs::Laws::checks), unfolding(wav_format::specs::Wave::check_strict, wav_format::specs::Wave::strict_size, wav_format::specs::Answers::number_of, wav_format::specs::Answers::values_of))]
-pub fn check_strict(file: &[u8], w: Wave) -> Result<Wave, WaveError>
+#[tactic(auto, using(outcome::proofs::Laws::checks), unfolding(wav_format::specs::Wave::check_strict, wav_format::specs::Wave::strict_size))]
+pub fn check_strict(file: &[u8], w: Wave) -> Result<Wave, Error>
     ensures { answered result ≡ check_strict file.now w }
 {
     if w.format.size != 16 {
-        return Err(WaveError::StrictFormat);
+        return Err(Error::StrictFormat);
     }
     if w.samples.start < w.format.start {
-        return Err(WaveError::StrictOrder);
+        return Err(Error::StrictOrder);
     }
     if w.end < file.len() {
-        return Err(WaveError::StrictEnd);
+        return Err(Error::StrictEnd);
     }
     Ok(w)
 }

@@ -3,9 +3,11 @@
 
 ghost use Rattle.std.specs.Prelude.{◌≡◌, ◌+◌, ◌≤◌, length, slice_index};
 ghost use Rattle.wav_format.specs.Wave.{letters_at, format_at, chunk_step, walk};
-ghost use Rattle.wav_format.specs.Answers.{answered};
+ghost use Rattle.outcome.specs.Table.{answered};
 
-use wav_format::{Chunks, Format, Part, WaveError};
+use outcome::Error;
+use parts::Part;
+use wav_format::{Chunks, Format};
 
 // Internal: whether the four bytes from `at` on are these letters.
 #[tactic(auto, using(lists::proofs::Letters::letters_equal, digits::proofs::Laws::tail_all), unfolding(wav_format::specs::Wave::letters_at))]
@@ -35,30 +37,30 @@ fn format_at(s: &[u8], start: usize, size: usize) -> Format
 }
 
 // Internal: the chunk at `c.at`, of a file whose RIFF end is `end`.
-#[tactic(auto, using(outcome::proofs::Laws::checks), unfolding(wav_format::specs::Wave::chunk_step, wav_format::specs::Answers::number_of, wav_format::specs::Answers::values_of))]
-fn chunk(file: &[u8], end: usize, c: Chunks) -> Result<Chunks, WaveError>
+#[tactic(auto, using(outcome::proofs::Laws::checks), unfolding(wav_format::specs::Wave::chunk_step))]
+fn chunk(file: &[u8], end: usize, c: Chunks) -> Result<Chunks, Error>
     requires { (c.at ≤ end) × (end ≤ length file.now) }
     ensures { answered result ≡ chunk_step file.now end c }
 {
     if end - c.at < 8 {
-        return Err(WaveError::ChunkHeader);
+        return Err(Error::ChunkHeader);
     }
     let size = digits::le::<4>(file, c.at + 4) as usize;
     let start = c.at + 8;
     let at = start + size.next_multiple_of(2);
     if end < at {
-        return Err(WaveError::ChunkEnd);
+        return Err(Error::ChunkEnd);
     }
     if letters_at(file, c.at, b"fmt ") {
         if c.format.is_some() || size < 16 {
-            return Err(WaveError::FormatChunk);
+            return Err(Error::FormatChunk);
         }
         let format = Some(format_at(file, start, size));
         return Ok(Chunks { at, format, ..c });
     }
     if letters_at(file, c.at, b"data") {
         if c.samples.is_some() {
-            return Err(WaveError::DataChunk);
+            return Err(Error::DataChunk);
         }
         let samples = Some(Part { start, size });
         return Ok(Chunks { at, samples, ..c });
@@ -67,7 +69,7 @@ fn chunk(file: &[u8], end: usize, c: Chunks) -> Result<Chunks, WaveError>
 }
 
 // Internal: all chunks up to the RIFF end.
-pub fn walk_chunks(file: &[u8], end: usize) -> Result<Chunks, WaveError>
+pub fn walk_chunks(file: &[u8], end: usize) -> Result<Chunks, Error>
     requires { (12 ≤ end) × (end ≤ length file.now) }
     ensures { answered result ≡ walk file.now end }
 {

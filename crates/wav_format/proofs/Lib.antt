@@ -2,7 +2,6 @@ pub mod Steps
 pub mod Walk
 pub mod Within
 pub mod Plain
-pub mod Answers
 pub mod Checks
 pub mod Claims
 pub mod Uses

@@ -10,7 +10,7 @@ use Rattle.outcome.proofs.Flags.{T_true}
 use Rattle.outcome.specs.Outcome.{result, Refusing}
 use Rattle.outcome.proofs.Laws.{cleared, passed, then_passed, refusals, refusing_branch, refusing_then}
 use Rattle.wav_format.specs.Wave.{chunk_step, walk_for, walk, frame_bytes, one_or_two, check_format, wave_of, found, check_data, check_chunks, riff_end, read_wave}
-use Rattle.wav_format.specs.declared.Part.{Part}
+use Rattle.parts.specs.declared.Part.{Part}
 use Rattle.wav_format.specs.declared.Format.{Format}
 use Rattle.wav_format.specs.declared.Chunks.{Chunks}
 use Rattle.wav_format.specs.declared.Wave.{Wave}

@@ -13,7 +13,7 @@ use Rattle.outcome.proofs.Flags.{either_elim, one_or_two_lem}
 use Rattle.outcome.proofs.Laws.{cleared, passed}
 use Rattle.wav_format.specs.Wave.{size_at, padded_end, format_at, passed_over, with_format, with_data, chunk_step, found, one_or_two, check_format}
 use Rattle.wav_format.specs.declared.Chunks.{Chunks}
-use Rattle.wav_format.specs.declared.Part.{Part}
+use Rattle.parts.specs.declared.Part.{Part}
 
 -- a result comes by one of two ways
 pub either_way : {A : Type 0} {P : Type 0} (b : Bool) (one other : Outcome A) (a : A) → (one ≡ result a → P) → (other ≡ result a → P)

@@ -11,7 +11,7 @@ use Rattle.std.specs.Prelude.{Some}
 use Rattle.outcome.specs.Outcome.{result, refused}
 use Rattle.outcome.proofs.Laws.{checks, cleared, passed, then_result, then_refused, then_passed}
 use Rattle.wav_format.specs.Wave.{first_chunk, walk_for, walk, wave_of, check_data, check_chunks, riff_end, read_wave, strict_size, check_strict, read_strict}
-use Rattle.wav_format.specs.declared.Part.{Part}
+use Rattle.parts.specs.declared.Part.{Part}
 use Rattle.wav_format.specs.declared.Format.{Format}
 use Rattle.wav_format.specs.declared.Chunks.{Chunks}
 use Rattle.wav_format.specs.declared.Wave.{Wave}

@@ -1,5 +1,4 @@
 pub mod Wave
 pub mod Samples
-pub mod Answers
 pub mod Cases
 pub mod Compute

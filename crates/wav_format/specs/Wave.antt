@@ -2,7 +2,8 @@
 use Rattle.std.specs.Prelude.{ℕ, zero, suc, ◌+◌, ◌-◌, ◌*◌, ◌%◌, Bool, ◌&&◌, ◌||◌, Option, Some, None, is_some, List, [], ltb, eqb, length, get_or, take, drop}
 use Rattle.outcome.specs.Outcome.{Outcome, result, refused, refuse_if, need, branch, ◌⟫◌, and_then}
 use Rattle.digits.specs.Digits.{field}
-use Rattle.wav_format.specs.declared.Part.{Part}
+use Rattle.parts.specs.declared.Part.{Part}
+use Rattle.parts.specs.Parts.{part_in}
 use Rattle.wav_format.specs.declared.Format.{Format}
 use Rattle.wav_format.specs.declared.Chunks.{Chunks}
 use Rattle.wav_format.specs.declared.Wave.{Wave}
@@ -155,5 +156,5 @@ read_strict s = and_then (read_wave s) (check_strict s)
 -- ---- the sample bytes are shown as a part of the caller's own file; an empty part where the call refuses
 
 unfoldable pub part_of : List ℕ → Outcome Wave → List ℕ
-part_of s (result w) = take w.samples.size (drop w.samples.start s)
+part_of s (result w) = part_in s w.samples
 part_of s (refused n vs) = []

@@ -1,17 +1,19 @@
 // The samples of a WAV file: its sample bytes as 16-bit numbers.
 #![tactic(auto)]
 
-ghost use Rattle.wav_format.specs.Answers.{AsSamples};
+ghost use Rattle.std.specs.Prelude.{length};
+ghost use Rattle.outcome.specs.Table.{Gives};
+ghost use Rattle.wav_format.specs.Samples.{samples_call};
 
-use wav_format::WaveError;
+use outcome::Error;
 
 // The samples of sample bytes, written to the front of `out`, and how many there are. A refusal leaves `out` as it was.
-pub fn load_samples(bytes: &[u8], out: &mut [i16]) -> Result<usize, WaveError>
-    ensures { AsSamples bytes.now out.old result out.new }
+pub fn load_samples(bytes: &[u8], out: &mut [i16]) -> Result<usize, Error>
+    ensures { Gives (samples_call bytes.now (length out.old)) out.old result out.new }
 {
     let n = bytes.len() / 2;
     if out.len() < n {
-        return Err(WaveError::OutputTooShort(n));
+        return Err(Error::OutputTooShort(n));
     }
     // The bytes by their places: of the items of a zip with `chunks_exact` a proof knows nothing.
     for (i, sample) in out[..n].iter_mut().enumerate() {

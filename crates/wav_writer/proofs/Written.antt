@@ -5,14 +5,13 @@ use Prim.Native.Nat.{ℕ, ◌+◌, ◌*◌, ◌-◌}
 use lib.IntN.{ℤ}
 use lib.ListN.{length, take, drop, length-append}
 use lib.Seq.{take_at, drop_at, drop-drop}
-use Rattle.std.specs.declared.result.Result.TheVariants.{Ok, Err}
-use Rattle.outcome.specs.Outcome.{result, on_result, output_after}
-use Rattle.outcome.proofs.Laws.{on_result_lem, output_result}
+use Rattle.std.specs.declared.result.Result.TheVariants.{Ok}
+use Rattle.outcome.specs.Outcome.{result}
+use Rattle.outcome.proofs.Table.{gives_result}
+use Rattle.outcome.specs.Table.{Gives}
 use Rattle.digits.specs.Digits.{digits}
 use Rattle.digits.proofs.Laws.{tail_all, tail_put}
-use Rattle.wav_format.specs.Answers.{refusal}
-use Rattle.wav_format.specs.declared.WaveError.{WaveError}
-use Rattle.wav_writer.specs.Writer.{wave_header, sample_bytes, wave_bytes, write_call, AsWritten}
+use Rattle.wav_writer.specs.Writer.{wave_header, sample_bytes, wave_bytes, write_call}
 use Rattle.wav_writer.proofs.SampleLoop.{length_samples}
 
 pub length-header : (channels rate size : ℕ) → length (wave_header channels rate size) ≡ 44
@@ -24,10 +23,6 @@ unfolding wave_bytes
 length-wave channels rate samples = rw (length-append, length-header, length_samples)
 
 module _ (channels rate : ℕ) (samples : List ℤ) (out : List ℕ) where
-  pub as_refused : (e : WaveError) → refusal e ≡ write_call channels rate samples (length out) → AsWritten channels rate samples out (Err e) out
-  unfolding on_result output_after
-  as_refused e q = record { answered = rw (← q); output_left = rw (← q) }
-
   abbrev size : ℕ
   size = 2 * length samples
 
@@ -38,7 +33,7 @@ module _ (channels rate : ℕ) (samples : List ℤ) (out : List ℕ) where
   -- the samples' bytes go into the part behind it
   pub as_written : (header tail : List ℕ) → result (wave_bytes channels rate samples) ≡ write_call channels rate samples (length out)
       → header ≡ wave_header channels rate size → tail ≡ sample_bytes samples ++ drop size (take (length (headed header) - 44) (drop 44 (headed header)))
-      → AsWritten channels rate samples out (Ok (44 + 2 * length samples)) (take 44 (headed header) ++ (tail ++ drop (length (headed header) - 44) (drop 44 (headed header))))
+      → Gives (write_call channels rate samples (length out)) out (Ok (44 + 2 * length samples)) (take 44 (headed header) ++ (tail ++ drop (length (headed header) - 44) (drop 44 (headed header))))
   unfolding wave_bytes
   as_written header tail q eh et =
       let all = wave_bytes channels rate samples in
@@ -47,13 +42,7 @@ module _ (channels rate : ℕ) (samples : List ℤ) (out : List ℕ) where
       let back : drop 44 (headed header) ≡ drop 44 out = drop_at header (drop 44 out) 44 long in
       let rest : tail ≡ sample_bytes samples ++ drop (44 + size) out =
       et ∙ ap (λ l. sample_bytes samples ++ drop size l) (tail_all 44 (headed header) ∙ back) ∙ ap (λ l. sample_bytes samples ++ l) (drop-drop size 44 out) in
-      let e : write_call channels rate samples (length out) ≡ result all = sym q in
-      record {
-        answered = ap result (sym (length-wave channels rate samples)) ∙ sym (on_result_lem length (write_call channels rate samples (length out)) e);
-        output_left =
-            tail_put 44 (headed header) rest
-            ∙ ap (λ l. l ++ (sample_bytes samples ++ drop (44 + size) out)) front
-            ∙ sym (append_assoc (wave_header channels rate size) (sample_bytes samples) (drop (44 + size) out))
-            ∙ ap (λ m. all ++ drop m out) (sym (length-wave channels rate samples))
-            ∙ sym (output_result _ all out e);
-      }
+      gives_result all q (sym (length-wave channels rate samples))
+      (tail_put 44 (headed header) rest
+      ∙ ap (λ l. l ++ (sample_bytes samples ++ drop (44 + size) out)) front
+      ∙ sym (append_assoc (wave_header channels rate size) (sample_bytes samples) (drop (44 + size) out)))

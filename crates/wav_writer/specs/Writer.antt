@@ -1,13 +1,10 @@
 -- Writing a WAV file, from 01 and Microsoft's RIFF/WAVE PCM format. Assumes nothing.
-use Rattle.std.specs.Prelude.{◌≡◌, ℕ, ◌+◌, ◌*◌, List, [], ◌∷◌, ◌++◌, ltb, ℤ, pos, length, get_or}
-use Rattle.std.specs.declared.result.Result.{Result}
-use Rattle.outcome.specs.Outcome.{Outcome, result, refuse_if, need, ◌⟫◌, on_result, output_after}
+use Rattle.std.specs.Prelude.{ℕ, ◌+◌, ◌*◌, List, [], ◌∷◌, ◌++◌, ltb, ℤ, pos, length, get_or}
+use Rattle.outcome.specs.Outcome.{Outcome, result, refuse_if, need, ◌⟫◌}
 use Rattle.lists.specs.Lists.{joined}
 use Rattle.digits.specs.Digits.{stored}
 use Rattle.signed.specs.Signed.{to_twos}
 use Rattle.wav_format.specs.Wave.{frame_bytes, one_or_two}
-use Rattle.wav_format.specs.Answers.{answered}
-use Rattle.wav_format.specs.declared.WaveError.{WaveError}
 
 -- the 44 bytes before the samples, for `size` bytes of samples: "RIFF", size + 36, "WAVE", "fmt ", 16, encoding 1, channels, rate,
 -- byte rate, alignment, bits 16, "data", size
@@ -39,8 +36,3 @@ write_checks channels rate count room rest =
 -- a writer call with room for so many bytes
 unfoldable pub write_call : ℕ → ℕ → List ℤ → ℕ → Outcome (List ℕ)
 write_call channels rate samples room = write_checks channels rate (length samples) room ⟫ result (wave_bytes channels rate samples)
-
--- the promise of the writer: answer and output are those of write_call
-pub record AsWritten (channels rate : ℕ) (samples : List ℤ) (out : List ℕ) (answer : Result ℕ WaveError) (output : List ℕ) : Type 0 where
-  pub answered : answered answer ≡ on_result length (write_call channels rate samples (length out))
-  pub output_left : output ≡ output_after (write_call channels rate samples (length out)) out

@@ -2,10 +2,11 @@
 #![tactic(auto)]
 
 ghost use Rattle.std.specs.Prelude.{◌≡◌, ◌++◌, ◌+◌, ◌*◌, ◌≤◌, length, drop};
+ghost use Rattle.outcome.specs.Table.{Gives};
 ghost use Rattle.wav_format.specs.Wave.{frame_bytes};
-ghost use Rattle.wav_writer.specs.Writer.{wave_header, sample_bytes, AsWritten};
+ghost use Rattle.wav_writer.specs.Writer.{wave_header, sample_bytes, write_call};
 
-use wav_format::WaveError;
+use outcome::Error;
 
 // Internal: the 44 bytes before `size` bytes of samples: those that every file has, fmt's size 16, encoding 1 and 16 bits among them, and
 // the fields that differ.
@@ -40,28 +41,28 @@ fn put_samples(samples: &[i16], out: &mut [u8])
 
 // Writes a WAV file of the samples, which are interleaved, to the front of `out`, and answers its length. Rate 0 and a partial frame
 // are accepted; a refusal leaves the output as it was.
-#[tactic(auto, using(outcome::proofs::Laws::checks, crate::proofs::Written::as_refused), unfolding(crate::specs::Writer::write_call, outcome::specs::Outcome::on_result, outcome::specs::Outcome::output_after, wav_format::specs::Answers::number_of, wav_format::specs::Answers::values_of))]
+#[tactic(auto, using(outcome::proofs::Laws::checks), unfolding(crate::specs::Writer::write_call, outcome::specs::Outcome::on_result, outcome::specs::Outcome::output_after))]
 pub fn write_pcm16_wave(
     channels: u8,
     rate: u32,
     samples: &[i16],
     out: &mut [u8],
-) -> Result<usize, WaveError>
-    ensures { AsWritten channels rate samples.now out.old result out.new }
+) -> Result<usize, Error>
+    ensures { Gives (write_call channels rate samples.now (length out.old)) out.old result out.new }
 {
     if !wav_format::one_or_two(channels as u16) {
-        return Err(WaveError::WriterChannels);
+        return Err(Error::WriterChannels);
     }
     let Ok(size) = u32::try_from(2 * samples.len()) else {
-        return Err(WaveError::DataSize);
+        return Err(Error::DataSize);
     };
-    let riff = size.checked_add(36).ok_or(WaveError::RiffSize)?;
+    let riff = size.checked_add(36).ok_or(Error::RiffSize)?;
     let byte_rate = rate
         .checked_mul(wav_format::frame_bytes(channels as u16))
-        .ok_or(WaveError::WriterByteRate)?;
+        .ok_or(Error::WriterByteRate)?;
     let needed = 44 + size as usize;
     if out.len() < needed {
-        return Err(WaveError::OutputTooShort(needed));
+        return Err(Error::OutputTooShort(needed));
     }
     let header = wave_header(channels, rate, byte_rate, riff, size);
     out[..44].copy_from_slice(&header);

@@ -5,13 +5,13 @@ use Prim.Native.Nat.{◌/◌, ◌≤◌, ◌<◌}
 use native.Mathlib.Omega.{arith}
 use lib.ListN.{length}
 use Rattle.sqv4_format.proofs.Sizes.{channels_few}
-use Rattle.sqv4_format.specs.Answers.{number_of, values_of}
 use Rattle.sqv4_format.specs.Layout.{version_for, channels_fit}
 use Rattle.sqv4_format.specs.Encode.{header_written, too_many, encode_call}
-use Rattle.sqv4_format.specs.declared.Error.TheVariants as E
+use Rattle.outcome.specs.declared.Error.TheVariants as E
 use Rattle.outcome.proofs.Flags.{via}
 use Rattle.outcome.proofs.Laws.{checks}
-use Rattle.encoder.proofs.Encoding.{as_refused, as_written, too_short, long_enough, headed_length}
+use Rattle.outcome.proofs.Table.{gives_refused}
+use Rattle.encoder.proofs.Encoding.{as_written, too_short, long_enough, headed_length}
 use Rattle.encoder.proofs.encode.Goals as goal
 use Rattle.encoder.proofs.encode.Goals.{Else-rate-eq0}
 
@@ -23,39 +23,39 @@ few : (c : Else-rate-eq0) → (0 < c.args.channels) × (c.args.channels ≤ 2)
 few c = channels_few _ _ (fit c)
 
 pub returns-then-not-channels_fit : goal.returns-then-not-channels_fit
-unfolding encode_call number_of values_of
+unfolding encode_call
 returns-then-not-channels_fit c =
     let fits = rw c.version_for-version.ensures at c.channels_fit.ensures in
-    as_refused _ _ _ _ _ (E.InvalidChannels _) (search checks depth 12)
+    gives_refused (E.InvalidChannels _) (search checks depth 12)
 
 pub returns-then-rate-eq0 : goal.returns-then-rate-eq0
-unfolding encode_call number_of values_of
+unfolding encode_call
 returns-then-rate-eq0 c =
     let fits = rw c.version_for-version.ensures at c.channels_fit.ensures in
-    as_refused _ _ _ _ _ E.ZeroSampleRate (search checks depth 12)
+    gives_refused E.ZeroSampleRate (search checks depth 12)
 
 pub nonzero_rem-pcm : goal.nonzero_rem-pcm
 nonzero_rem-pcm c = (few c).0
 
 pub returns-then-pcm-count-ne0 : goal.returns-then-pcm-count-ne0
-unfolding encode_call number_of values_of
+unfolding encode_call
 returns-then-pcm-count-ne0 c =
     let fits = rw c.version_for-version.ensures at c.channels_fit.ensures in
-    as_refused _ _ _ _ _ E.MisalignedInterleavedSamples (search checks depth 12)
+    gives_refused E.MisalignedInterleavedSamples (search checks depth 12)
 
 pub nonzero_div-pcm : goal.nonzero_div-pcm
 nonzero_div-pcm c = (few (goal.at.nonzero_div-pcm c).Else-rate-eq0).0
 
 pub returns-in_default : goal.returns-in_default
-unfolding encode_call number_of values_of too_many
+unfolding encode_call too_many
 returns-in_default c =
     let fits = rw c.version_for-version.ensures at c.channels_fit.ensures in
     let many : 4294967295 < length c.args.pcm.now / c.args.channels = omega (arith, c.in_default.ensures) in
-    as_refused _ _ _ _ _ E.TooManySamples (search checks depth 12)
+    gives_refused E.TooManySamples (search checks depth 12)
 
 pub returns-then-out-needed : goal.returns-then-out-needed
 unfolding header_written
-returns-then-out-needed c = as_refused _ _ _ _ _ (E.OutputTooShort _) (too_short c.args.settings _ _ _ _ (fit (goal.at.returns-then-out-needed c).Else-rate-eq0) c.if-rate-eq0.false c.if-pcm-count-ne0.false (omega (arith, c.in-Ok.ensures.0)) _ (rw (c.in-Ok.ensures.1, c.version_for-version.ensures) at c.stream_length-needed.ensures) c.if-out-needed.true)
+returns-then-out-needed c = gives_refused (E.OutputTooShort _) (too_short c.args.settings _ _ _ _ (fit (goal.at.returns-then-out-needed c).Else-rate-eq0) c.if-rate-eq0.false c.if-pcm-count-ne0.false (omega (arith, c.in-Ok.ensures.0)) _ (rw (c.in-Ok.ensures.1, c.version_for-version.ensures) at c.stream_length-needed.ensures) c.if-out-needed.true)
 
 pub put_fragments-requires : goal.put_fragments-requires
 unfolding header_written

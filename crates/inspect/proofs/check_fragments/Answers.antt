@@ -1,8 +1,9 @@
 use mathlib.Core.Path.{◌≡◌, sym, ◌∙◌}
 use native.Mathlib.Numerals.{add-one}
 use native.Mathlib.Omega.{arith}
-use Rattle.outcome.proofs.Laws.{passed_on, order_next, order_refused}
-use Rattle.sqv4_format.specs.Answers.{answered}
+use Rattle.outcome.proofs.Laws.{order_next, order_refused}
+use Rattle.outcome.proofs.Table.{passed_on}
+use Rattle.outcome.specs.Table.{answered}
 use Rattle.inspect.proofs.Laws.{check_at, same-header}
 use Rattle.inspect.proofs.check_fragments.Goals as goal
 use Rattle.inspect.proofs.check_fragments.Goals.{After-fragment_checks}
@@ -14,7 +15,7 @@ here c = rw (c.place.ensures.0, c.place.ensures.1, c.fragment.ensures) at c.frag
 pub returns-in_err-fragment_checks : goal.returns-in_err-fragment_checks
 returns-in_err-fragment_checks c =
     let refused = rw c.in_err-fragment_checks.was at (here (goal.at.returns-in_err-fragment_checks c).After-fragment_checks) in
-    passed_on _ _ _ _ _ c.from_residual.ensures.1 (sym (order_refused _ _ _ _ c.loop-p.invariant (sym refused) (omega arith)))
+    passed_on _ _ _ c.from_residual.ensures.1 (sym (order_refused _ _ _ _ c.loop-p.invariant (sym refused) (omega arith)))
 
 pub loop-p-preserved : goal.loop-p-preserved
 loop-p-preserved c =

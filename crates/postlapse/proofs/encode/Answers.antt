@@ -1,6 +1,7 @@
 -- `postlapse::encode` meets its contract: a byte that names no variant is refused first, and else the encoder answers. Assumes nothing.
 use mathlib.Core.Path.{refl}
-use Rattle.outcome.proofs.Laws.{then_result, then_refused, passed_on}
+use Rattle.outcome.proofs.Laws.{then_result, then_refused}
+use Rattle.outcome.proofs.Table.{passed_on}
 use Rattle.postlapse.specs.Promises.{encode_for_c}
 use Rattle.postlapse.proofs.Laws.{fills_none}
 use Rattle.postlapse.proofs.encode.Goals as goal
@@ -9,7 +10,7 @@ pub returns-in_err-variant : goal.returns-in_err-variant
 unfolding encode_for_c
 returns-in_err-variant c =
     let none = fills_none {out = c.args.out.now} (then_refused _ _ _ _ c.in_err-variant.ensures) in
-    (passed_on _ _ _ _ _ c.from_residual.ensures.1 none.0, none.1)
+    (passed_on _ _ _ c.from_residual.ensures.1 none.0, none.1)
 
 pub returns : goal.returns
 unfolding encode_for_c

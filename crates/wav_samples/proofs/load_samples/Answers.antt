@@ -10,12 +10,16 @@ use Rattle.lists.specs.Lists.{tabulate}
 use Rattle.lists.proofs.ByIndex.{fill_next}
 use Rattle.signed.specs.Signed.{of_twos}
 use Rattle.signed.proofs.Laws.{back16}
-use Rattle.wav_format.specs.Samples.{samples_of}
-use Rattle.wav_samples.proofs.Samples.{two_bytes_at, too_short, all_loaded}
+use Rattle.outcome.specs.declared.Error.TheVariants.{OutputTooShort}
+use Rattle.outcome.proofs.Laws.{checks}
+use Rattle.outcome.proofs.Table.{gives_refused, gives_result}
+use Rattle.wav_format.specs.Samples.{samples_of, samples_call}
+use Rattle.wav_samples.proofs.Samples.{two_bytes_at, length_samples}
 use Rattle.wav_samples.proofs.load_samples.Goals as goal
 
 pub returns-then-out-n : goal.returns-then-out-n
-returns-then-out-n c = too_short _ _ c.if-out-n.true
+unfolding samples_call
+returns-then-out-n c = gives_refused (OutputTooShort _) (search checks)
 
 pub loop-i-init : goal.loop-i-init
 unfolding tabulate
@@ -28,8 +32,9 @@ loop-i-preserved c =
     (simp length-set c.loop-i.invariant.0, fill_next _ _ i _ (omega (arith, c.loop-i.invariant.0)) c.loop-i.invariant.1 (back16 _ (search rules) ∙ c.sample_of.ensures ∙ sample))
 
 pub returns : goal.returns
-unfolding samples_of
+unfolding samples_of samples_call
 returns c =
     let full = c.loop-i.invariant.0 in
     let all : c.loop-i.i ≡ length c.args.bytes.now / 2 = omega (arith, full) in
-    all_loaded _ _ c.if-out-n.false _ (sym (take_all _ _ (le_of_eq full)) ∙ (rw all at c.loop-i.invariant.1))
+    let loaded = sym (take_all _ _ (le_of_eq full)) ∙ (rw all at c.loop-i.invariant.1) in
+    gives_result (samples_of c.args.bytes.now) (search checks) (sym (length_samples _)) (rw loaded refl)
