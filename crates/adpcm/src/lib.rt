@@ -2,6 +2,7 @@
 #![tactic(auto)]
 
 ghost use Rattle.std.specs.Prelude.{◌≡◌, ◌<◌, ◌≤◌, ◌^◌, nat_abs};
+ghost use Rattle.std.specs.Int.Signed.{mag};
 ghost use Rattle.sqv4_format.specs.Tables as tables;
 ghost use Rattle.sqv4_format.specs.Layout.{bits};
 ghost use Rattle.sqv4_format.specs.Step.{step_at, part, h_size, l_size, levels, level_of, size_of, sign_bit, difference, adjustment, stepped};
@@ -29,8 +30,7 @@ pub static L_PLUS_LEVELS: [i32; 4] = [1, 2, 3, 14];
 
 pub static L_LEVELS: [i32; 4] = [1, 3, 5, 7];
 
-// H has no levels, and zeros stand for them: `level` is public, gives 0 of H and cannot fail, and an Option would only move that 0 to
-// its caller.
+// H has no levels, and zeros stand for them: so `level` cannot fail, and an Option would only move that 0 to its caller.
 static H_LEVELS: [i32; 4] = [0; 4];
 
 // The table of the steps.
@@ -44,13 +44,15 @@ pub fn steps() -> &'static [i32; 89]
 // The step at an index.
 #[tactic(auto, using(crate::proofs::Bounds::step_entry, crate::proofs::Bounds::step_low, crate::proofs::Bounds::step_high))]
 pub fn step_size(index: StepIndex) -> u32
-    ensures { (result ≡ step_at index.value) × (7 ≤ result) × (result ≤ 32767) }
+    ensures value { result ≡ step_at index.value }
+    ensures low { 7 ≤ result }
+    ensures high { result ≤ 32767 }
 {
     steps()[index.value] as u32
 }
 
-// The levels of a variant. What depends on the variant is picked by a match, here and below: the ways of H and of L and L+ share no step,
-// and the variant is known only at run time; a closure or a trait object would be called at each sample and be no plainer.
+// The levels of a variant. What depends on the variant is picked by a match, here and below: the variant is known only at run time, and a
+// closure or a trait object would be called at each sample and be no plainer.
 #[tactic(auto, unfolding(sqv4_format::specs::Tables::l_levels, sqv4_format::specs::Tables::l_plus_levels, sqv4_format::specs::Tables::legacy_l_plus_levels))]
 fn levels(coding: Coding) -> &'static [i32; 4]
     ensures { result.now ≡ levels coding.version coding.variant }
@@ -94,7 +96,7 @@ fn h_size(index: StepIndex, code: u8) -> u32
         + part_of(code / 4 % 2 == 1, step)
 }
 
-// Internal: the size of an L or L+ code's difference.
+// The size of an L or L+ code's difference.
 #[tactic(auto, using(signed::proofs::Laws::product_le), unfolding(sqv4_format::specs::Step::l_size))]
 pub fn l_size(level: u32, step: u32) -> u32
     requires { (level ≤ 14) × (step ≤ 32767) }
@@ -124,14 +126,15 @@ fn sign_bit(variant: Variant) -> u8
 }
 
 // The difference that a code stands for, at an index.
-pub fn delta(coding: Coding, index: StepIndex, code: u8) -> i32
+fn delta(coding: Coding, index: StepIndex, code: u8) -> i32
     ensures { (result ≡ difference coding.version coding.variant (step_at index.value) code) × (nat_abs result ≤ 65535) }
 {
     let negative = code / sign_bit(coding.variant) % 2 == 1;
     signed::with_sign(negative, size_of(coding, index, code))
 }
 
-// Internal: what a code adds to the index.
+// What a code adds to the index.
+#[tactic(auto, using(crate::proofs::Bounds::adjustment_read, crate::proofs::Bounds::three, crate::proofs::Bounds::adjustment_three), unfolding(sqv4_format::specs::Tables::h_index_adjust, sqv4_format::specs::Tables::l_index_adjust))]
 fn adjustment(variant: Variant, code: u8) -> i32
     requires { code < 2 ^ bits variant }
     ensures { (result ≡ adjustment variant code) × (nat_abs result ≤ 9) }
@@ -145,18 +148,25 @@ fn adjustment(variant: Variant, code: u8) -> i32
     }
 }
 
-// Internal: the state after a code. That the code has the variant's bits is asked, here and above: a type of a code would hold its variant
+// The predictor after a code.
+#[tactic(auto, using(signed::proofs::Laws::back32, signed::proofs::Laws::read16, signed::proofs::Laws::clamp_fits), unfolding(sqv4_format::specs::Step::stepped, sqv4_format::specs::Step::unclamped_predictor))]
+pub fn predictor_after(coding: Coding, state: Reached, code: u8) -> i32
+    ensures { (result ≡ (stepped coding.version coding.variant state.state code).predictor) × (mag result ≤ 32767) }
+{
+    signed::add_clamp16(state.state.predictor, delta(coding, state.index(), code))
+}
+
+// The state after a code. That the code has the variant's bits is asked, here and in `adjustment`: a type of a code would hold its variant
 // too, and each of the 64 bytes that are unpacked at once would have to be made one.
+#[tactic(auto, using(signed::proofs::Laws::clamp_to_le), unfolding(sqv4_format::specs::Step::stepped, sqv4_format::specs::Step::unclamped_index))]
 pub fn update(coding: Coding, state: Reached, code: u8) -> Reached
     requires { code < 2 ^ bits coding.variant }
     ensures { result.state ≡ stepped coding.version coding.variant state.state code }
 {
-    let before = state.state;
-    let difference = delta(coding, state.index(), code);
+    let predictor = predictor_after(coding, state, code);
     let adjustment = adjustment(coding.variant, code);
-    let predictor = signed::add_clamp16(before.predictor, difference);
     let top = State::MAX_STEP_INDEX as u32;
-    let index = signed::add_clamp_to(before.index as u32, adjustment, top) as usize;
+    let index = signed::add_clamp_to(state.state.index as u32, adjustment, top) as usize;
     Reached {
         state: State { predictor, index },
     }

@@ -17,30 +17,6 @@ use Rattle.digits.specs.Digits.{number, digits, bits_at, stored, field, packed, 
 abbrev pub Small : ℕ → List ℕ → Type 0
 Small w ds = (i : ℕ) → get_or ds i 0 < 2 ^ w
 
--- ---- the bits of a number
-
--- a + b bits are the a low ones and the b above them
-pub bits_join : (x i a b : ℕ) → bits_at a i x + bits_at b (i + a) x * 2 ^ a ≡ bits_at (a + b) i x
-bits_join x i a b = rw (← (shr-shr x i a), add_comm a b) (add_comm _ _ ∙ sym (mod-pow-add (x / 2 ^ i) b a))
-
--- the a low bits of b + a, and the b high ones
-pub bits_low : (x i a b : ℕ) → bits_at (b + a) i x % 2 ^ a ≡ bits_at a i x
-bits_low x i a b = mod-mod-pow (x / 2 ^ i) b a
-
-pub bits_high : (x i a b : ℕ) → bits_at (b + a) i x / 2 ^ a ≡ bits_at b (i + a) x
-bits_high x i a b = pow.field (x / 2 ^ i) b a ∙ ap (λ (y : ℕ). y % 2 ^ b) (shr-shr x i a)
-
--- bits of bits
-pub bits-bits : (x i m j w : ℕ) → j + w ≤ m → bits_at w j (bits_at m i x) ≡ bits_at w (i + j) x
-bits-bits x i m j w h =
-    let q : m ≡ ((m - (j + w)) + w) + j = omega arith in
-    ap (λ (n : ℕ). bits_at w j (bits_at n i x)) q
-    ∙ ap (λ (y : ℕ). y % 2 ^ w) (bits_high x i j ((m - (j + w)) + w))
-    ∙ bits_low x (i + j) w (m - (j + w))
-
-pub bits_lt : (x i w : ℕ) → bits_at w i x < 2 ^ w
-bits_lt x i w = mod-lt (x / 2 ^ i) (pow_pos w)
-
 -- ---- the number of a list of digits
 
 turn : (p d n : ℕ) → d + p * n ≡ n * p + d
@@ -179,16 +155,6 @@ packed-unpacked w n bytes small rest =
     (number_digits w n (number 8 bytes) ∙ mod-eq_of_lt (below_of_zero (number 8 bytes) (w * n) (eqb-true _ _ rest)))
     ∙ digits_number 8 bytes small
 
--- w bits that begin in the byte k lie in it and the next
-pub window : (w : ℕ) (bytes : List ℕ) → Small 8 bytes → (k r : ℕ) → r + w ≤ 16 → (get_or bytes k 0 + 256 * get_or bytes (k + 1) 0) / 2 ^ r % 2 ^ w ≡ bits_at w (8 * k + r) (number 8 bytes)
-window w bytes small k r fits =
-    let next : 8 * k + 8 ≡ 8 * (k + 1) = omega arith in
-    let high : bits_at 8 (8 * k + 8) (number 8 bytes) ≡ get_or bytes (k + 1) 0 =
-    ap (λ (i : ℕ). bits_at 8 i (number 8 bytes)) next ∙ number_at 8 bytes small (k + 1) in
-    let both : get_or bytes k 0 + 256 * get_or bytes (k + 1) 0 ≡ bits_at 16 (8 * k) (number 8 bytes) =
-    omega (arith, bits_join (number 8 bytes) (8 * k) 8 8, number_at 8 bytes small k, high) in
-    ap (bits_at w r) both ∙ bits-bits (number 8 bytes) (8 * k) 16 r w fits
-
 -- ---- the bits past a place
 
 -- with no bit set past the byte k, what lies from it on is the byte
@@ -256,26 +222,11 @@ number-part w n ds at h = rw (drop-cons ds at 0 h)
 
 -- ---- stored numbers
 
--- a number that was put is read back, as far as its n bytes hold it
-pub field_stored : (n x at : ℕ) (l rest : List ℕ) → at ≤ length l → field n at (take at l ++ stored n x ++ rest) ≡ x % 2 ^ (8 * n)
-field_stored n x at l rest h =
-    ap (field n at) (append_assoc (take at l) (stored n x) rest)
-    ∙ ap (λ (t : List ℕ). number 8 (take n t)) (drop_at (take at l) (stored n x ++ rest) at (length-take-le at l h))
-    ∙ ap (number 8) (take_at (stored n x) rest n (length_digits 8 n x))
-    ∙ number_digits 8 n x
-
 -- a field fits its n bytes
 pub field_lt : (n at : ℕ) (bytes : List ℕ) → Small 8 bytes → at + n ≤ length bytes → field n at bytes < 2 ^ (8 * n)
 field_lt n at bytes small h =
     let len : length (take n (drop at bytes)) ≡ n = length-take-le n (drop at bytes) (simp length-drop (omega arith)) in
     rw len at (number_lt 8 (take n (drop at bytes)) (small_take 8 n (drop at bytes) (λ i l. small_drop 8 bytes small at i)))
-
--- a number that was read and is stored gives its bytes
-pub stored-field : (n at : ℕ) (bytes : List ℕ) → Small 8 bytes → at + n ≤ length bytes → stored n (field n at bytes) ≡ take n (drop at bytes)
-stored-field n at bytes small h =
-    let len : length (take n (drop at bytes)) ≡ n = length-take-le n (drop at bytes) (simp length-drop (omega arith)) in
-    ap (λ (k : ℕ). digits 8 k (field n at bytes)) (sym len)
-    ∙ digits_number 8 (take n (drop at bytes)) (small_take 8 n (drop at bytes) (λ i l. small_drop 8 bytes small at i))
 
 -- ---- a part of a list that was lent, and the list when the part is back
 

@@ -4,9 +4,9 @@
 #![tactic(auto)]
 
 ghost use Rattle.std.specs.Prelude.{◌≡◌, ℕ, ◌+◌, ◌*◌, ◌^◌, ◌≤◌, ◌<◌, ◌++◌, length, get_or, take, drop};
-ghost use Rattle.digits.specs.Digits.{number, digits, stored, field, packed, unpacked, code_at, rest_zero};
+ghost use Rattle.digits.specs.Digits.{number, digits, stored, field, packed, unpacked, rest_zero};
 
-// Codes with their width, of 1 to 8 bits. `unpack_code` and `regroup`'s target take their width as a number: they take 0 too.
+// Codes with their width, of 1 to 8 bits. `regroup` takes its target's width as a number: it takes 0 too.
 #[derive(Clone, Copy)]
 pub struct Codes<'a> {
     pub codes: &'a [u8],
@@ -22,7 +22,7 @@ fn at_or_zero(s: &[u8], k: usize) -> u64
     s.get(k).copied().unwrap_or(0) as u64
 }
 
-// Internal: a power of two. A product, a quotient or a remainder by it compiles to a shift or a mask.
+// A power of two. A product, a quotient or a remainder by it compiles to a shift or a mask.
 fn pow2(n: usize) -> u64
     requires { n < 64 }
     ensures { (result ≡ 2 ^ n) × (0 < result) }
@@ -30,23 +30,8 @@ fn pow2(n: usize) -> u64
     1u64 << n
 }
 
-// Internal: the code of `bits` bits at place `at`. It lies in two bytes that follow each other. Past the end it is 0. No function calls it:
-// it is the reference Rust's `unpack_code`, the plain rule of one code, `code_at`, of which the law `code_packed` speaks.
-#[tactic(auto, using(crate::proofs::Laws::window, crate::proofs::Laws::bits_lt))]
-pub fn unpack_code(payload: &[u8], at: usize, bits: usize) -> u8
-    requires { (bits ≤ 8) × (at < 2 ^ 32) }
-    ensures { (result ≡ code_at bits at payload.now) × (result < 2 ^ bits) }
-{
-    let from = bits * at;
-    let k = from / 8;
-    let low = at_or_zero(payload, k);
-    let high = at_or_zero(payload, k + 1);
-    let window = (low + 256 * high) / pow2(from % 8);
-    (window % pow2(bits)) as u8
-}
-
-// Internal: the codes written as digits of `bits` bits that fill `out`: packing and unpacking, at any widths. The bound on the length stands
-// here and in two callers: `out` is lent to be written, so that no type of the codes can hold it.
+// The codes written as digits of `bits` bits that fill `out`: packing and unpacking, at any widths. The bound on the length stands here and
+// in two callers: `out` is lent to be written, so that no type of the codes can hold it.
 pub fn regroup(src: Codes, out: &mut [u8], bits: usize)
     requires { (bits ≤ 8) × (length out.old < 2 ^ 32) }
     ensures { out.new ≡ digits bits (length out.old) (number src.entry.bits src.entry.codes.now) }
@@ -65,7 +50,7 @@ pub fn regroup(src: Codes, out: &mut [u8], bits: usize)
     }
 }
 
-// Internal: the first sixty-four codes of `payload`, 0 past its end.
+// The first sixty-four codes of `payload`, 0 past its end.
 pub fn unpack_codes(payload: &[u8], bits: usize) -> [u8; 64]
     requires { (0 < bits) × (bits ≤ 8) }
     ensures { result ≡ unpacked bits 64 payload.now }
@@ -79,7 +64,7 @@ pub fn unpack_codes(payload: &[u8], bits: usize) -> [u8; 64]
     codes
 }
 
-// Internal: the codes packed so that they fill `out`, with unused bits zero.
+// The codes packed so that they fill `out`, with unused bits zero.
 pub fn pack_codes(codes: Codes, out: &mut [u8])
     requires { length out.old < 2 ^ 32 }
     ensures { out.new ≡ packed codes.entry.bits (length out.old) codes.entry.codes.now }
@@ -96,8 +81,8 @@ pub fn unused_bits_zero(payload: &[u8], used: usize) -> bool
     after.iter().all(|&byte| byte == 0) && at_or_zero(payload, k) / pow2(used % 8) == 0
 }
 
-// Internal: the little-endian number in the N bytes from `at` on. One function and one law for every width: std's `from_le_bytes` is one
-// for each, and takes an array.
+// The little-endian number in the N bytes from `at` on. One function and one law for every width: std's `from_le_bytes` is one for each,
+// and takes an array.
 pub fn le<const N: usize>(s: &[u8], at: usize) -> u64
     requires { (N ≤ 8) × (at + N ≤ length s.now) }
     ensures { (result ≡ field N at s.now) × (result < 2 ^ (8 * N)) }
@@ -107,7 +92,7 @@ pub fn le<const N: usize>(s: &[u8], at: usize) -> u64
     u64::from_le_bytes(bytes)
 }
 
-// Internal: the low N bytes of `x`, little-endian, in the N bytes from `at` on. The rest stays. One for every width, as `le`.
+// The low N bytes of `x`, little-endian, in the N bytes from `at` on; the rest stays. One for every width, as `le`.
 #[tactic(auto, using(crate::proofs::Laws::part_put, crate::proofs::StdBytes::low_digits))]
 pub fn put_le<const N: usize>(out: &mut [u8], at: usize, x: u64)
     requires { (N ≤ 8) × (at + N ≤ length out.old) }

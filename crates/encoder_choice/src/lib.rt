@@ -9,12 +9,11 @@ use sqv4_format::{Coding, Reached, Variant};
 
 // How far from the input a code's clamped result lands. Variant, state and input stay three parameters, here and in `l_code`: they are
 // what the definition `code_for` takes, and each caller has them apart.
+#[tactic(auto, using(signed::proofs::Laws::read16, adpcm::proofs::Bounds::sample_read))]
 fn error_of(variant: Variant, state: Reached, input: i16, code: u8) -> u32
     ensures { result ≡ (choice variant state.state input code).error }
 {
-    let coding = Coding::written(variant);
-    let difference = adpcm::delta(coding, state.index(), code);
-    let candidate = signed::add_clamp16(state.state.predictor, difference);
+    let candidate = adpcm::predictor_after(Coding::written(variant), state, code);
     (input as i32).abs_diff(candidate)
 }
 
@@ -27,6 +26,7 @@ pub fn take_off(threshold: u32, d: u32) -> u32
 }
 
 // The H code for a normalised sample. Its bits 4, 2, 1 and 8 are written in one form, that of 1 too.
+#[tactic(auto, using(signed::proofs::Laws::read16, adpcm::proofs::Bounds::sample_read), unfolding(sqv4_format::specs::Encode::h_code))]
 fn h_code(state: Reached, input: i16) -> u8
     ensures { (result ≡ h_code state.state input) × (result < 16) }
 {
@@ -43,8 +43,8 @@ fn h_code(state: Reached, input: i16) -> u8
     code as u8
 }
 
-// The L or L+ code for a normalised sample: the lowest of eight whose clamped result is nearest. A loop and not `min_by_key`: that one says
-// only turn by turn that the first of equal errors stays, std has no lemma to the whole list, and the empty range would be answered too.
+// The L or L+ code for a normalised sample: the lowest of eight whose clamped result is nearest. A loop and not `min_by_key`: of that std
+// has no lemma that the first of equal errors stays, and the empty range would be answered too.
 fn l_code(variant: Variant, state: Reached, input: i16) -> u8
     ensures { (result ≡ l_code variant state.state input) × (result < 8) }
 {
@@ -60,8 +60,7 @@ fn l_code(variant: Variant, state: Reached, input: i16) -> u8
     best_code
 }
 
-// The code for a normalised sample; the caller then updates its state with it. The two ways share no step, and the variant is known only
-// at run time: hence a match. A closure or a trait object would be called at each sample and be no plainer.
+// The code for a normalised sample; the caller then updates its state with it.
 pub fn encode_code(variant: Variant, state: Reached, input: i16) -> u8
     ensures { (result ≡ code_for variant state.state input) × (result < 2 ^ bits variant) }
 {

@@ -1,4 +1,4 @@
-pub mod Tried
+pub mod SoFar
 pub mod Bested
 pub mod Front
 pub mod Fragment

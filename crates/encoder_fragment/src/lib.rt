@@ -4,16 +4,16 @@
 ghost use Rattle.std.specs.Prelude.{◌≡◌, ◌∷◌, map, ℕ, ℤ, ◌-◌, ◌<◌, ◌≤◌, ◌^◌, length, get_or, take};
 ghost use Rattle.digits.specs.Digits.{packed};
 ghost use Rattle.sqv4_format.specs.Layout.{encoder_version, fragment_size};
-ghost use Rattle.sqv4_format.specs.Gain.{pregained, normalised};
-ghost use Rattle.sqv4_format.specs.Encode.{trial_to, best_trial, fragment_bytes, encoded_fragment};
+ghost use Rattle.sqv4_format.specs.Gain.{pregained};
+ghost use Rattle.sqv4_format.specs.Encode.{target, trial_to, best_trial, fragment_bytes, encoded_fragment};
 
 use digits::Codes;
 use encoder_search::Fragment;
 use encoder_step::Coder;
-use sqv4_format::{Coding, Reached};
+use sqv4_format::{Coding, Reached, Settings};
 
-// Internal: what a function gives of the samples, at the front of 63 places. An array, here and in `codes_from`: what is lent of
-// it is its first `count` places, and the callers have the count; an ArrayVec would be no plainer.
+// What a function gives of the samples, at the front of 63 places. An array, here and in `codes_from`: the callers have the count of what
+// they lend of it.
 fn mapped<F: Fn(i16) -> i16>(xs: &[i16], f: F) -> [i16; 63]
     requires few { length xs.now ≤ 63 }
     requires callable { F.IsAlwaysCallable f }
@@ -24,6 +24,14 @@ fn mapped<F: Fn(i16) -> i16>(xs: &[i16], f: F) -> [i16; 63]
         ys[i] = f(*x);
     }
     ys
+}
+
+// What the codes of a sample go toward: the sample at the fragment's full scale.
+fn target(settings: Settings, volume: u8, sample: i16) -> i16
+    requires { 0 < volume }
+    ensures { result ≡ target settings volume sample }
+{
+    gain::normalise(sample, volume)
 }
 
 // The codes of the trial from a start index, one for each sample from place 0 on.
@@ -42,7 +50,7 @@ fn codes_from(fragment: Fragment, index: u8) -> [u8; 63]
     codes
 }
 
-// Internal: a fragment's bytes that fill `out`: volume, index, and the codes packed into the rest.
+// A fragment's bytes that fill `out`: volume, index, and the codes packed into the rest.
 fn put_fragment(out: &mut [u8], volume: u8, index: u8, codes: Codes)
     requires { (2 ≤ length out.old) × (length out.old < 2 ^ 32) }
     ensures { out.new ≡ volume ∷ index ∷ packed codes.entry.bits (length out.old - 2) codes.entry.codes.now }
@@ -52,8 +60,7 @@ fn put_fragment(out: &mut [u8], volume: u8, index: u8, codes: Codes)
     digits::pack_codes(codes, &mut out[2..]);
 }
 
-// Internal: the bytes of a fragment that is not silent: of the trials from 0..=88 the one with the least sum, the lowest start at
-// equality.
+// The bytes of a fragment that is not silent: of the trials from 0..=88 the one with the least sum, the lowest start at equality.
 fn put_best(fragment: Fragment, out: &mut [u8])
     requires { length out.old ≡ fragment_size encoder_version fragment.coder.now.settings.variant }
     ensures { out.new ≡ fragment_bytes fragment.entry.coder.now.settings.variant fragment.entry.volume (best_trial fragment.entry.coder.now.settings fragment.entry.volume fragment.entry.xs.now) }
@@ -68,8 +75,7 @@ fn put_best(fragment: Fragment, out: &mut [u8])
     put_fragment(out, fragment.volume, found.index, codes);
 }
 
-// Internal: the fragment of at most 63 samples. It fills `out`. Samples that are all 0 take the short way; others can be silent
-// after pre-gain.
+// The fragment of at most 63 samples, which fills `out`. Samples that are all 0 take the short way; others can be silent after pre-gain.
 pub fn encode_fragment(coder: &Coder, samples: &[i16], out: &mut [u8])
     requires { (length samples.now ≤ 63) × (length out.old ≡ fragment_size encoder_version coder.now.settings.variant) }
     ensures { out.new ≡ encoded_fragment coder.now.settings samples.now }
@@ -86,8 +92,8 @@ pub fn encode_fragment(coder: &Coder, samples: &[i16], out: &mut [u8])
         out.fill(0);
         return;
     }
-    let normalized = mapped(xs, |x| gain::normalize(x, volume));
-    let targets = &normalized[..count];
+    let targets = mapped(xs, |x| target(coder.settings, volume, x));
+    let targets = &targets[..count];
     let fragment = Fragment {
         coder,
         volume,

@@ -1,4 +1,4 @@
--- The loop over the starts: the best of the starts of the turns so far, and of all turns; and a start that was tried before. Assumes
+-- The loop over the starts: the best of the starts of the attempts so far, and of all attempts; and a start that was tried before. Assumes
 -- nothing.
 use mathlib.Core.Path.{◌≡◌, refl, sym, ◌∙◌, ap}
 use mathlib.Core.List.{List}
@@ -18,17 +18,17 @@ unfolding trial_to trial_step
 trial_start k v xs index zero = refl
 trial_start k v xs index (suc n) = trial_start k v xs index n
 
--- ---- the start of a turn
+-- ---- the start of an attempt
 
--- from turn 4 on all starts have their turn
+-- from attempt 4 on all starts have their attempt
 start_late : (j : ℕ) → start_at (j + 4) ≡ j
 unfolding start_at
 start_late j = rw (le-ltb (j + 4) 4 (omega arith)) (omega arith)
 
--- a bound had its turn before
-pub bound_tried : (turn index : ℕ) → 4 ≤ turn → 64 ≤ index → index ≤ 88 → index % 8 ≡ 0 → Tried turn index
+-- a bound had its attempt before
+pub bound_tried : (attempt index : ℕ) → 4 ≤ attempt → 64 ≤ index → index ≤ 88 → index % 8 ≡ 0 → Tried attempt index
 unfolding start_at
-bound_tried turn index h low high e =
+bound_tried attempt index h low high e =
     let w : (88 - index) / 8 < 4 = omega arith in
     record { when = (88 - index) / 8; earlier = omega arith; same = rw (lt-ltb ((88 - index) / 8) 4 w) (omega arith) }
 
@@ -37,17 +37,17 @@ module _ (k : Settings) (v : ℕ) (xs : List ℤ) where
   abbrev sum_from : ℕ → ℕ
   sum_from index = (trial_to k v xs index (length xs)).sum
 
-  -- the starts of the turns before this one are tried; none of them beats b, and b is the lowest of the best
-  pub record Leading (turn : ℕ) (b : Best) : Type 0 where
+  -- the starts of the attempts before this one are tried; none of them beats b, and b is the lowest of the best
+  pub record Leading (attempt : ℕ) (b : Best) : Type 0 where
     pub start : b.found.index ≤ 88
     pub ran : Ran k v xs b
-    pub least : (t : ℕ) → t < turn → b.found.sum ≤ sum_from (start_at t)
-    pub lowest : (t : ℕ) → t < turn → start_at t < b.found.index → b.found.sum < sum_from (start_at t)
+    pub least : (t : ℕ) → t < attempt → b.found.sum ≤ sum_from (start_at t)
+    pub lowest : (t : ℕ) → t < attempt → start_at t < b.found.index → b.found.sum < sum_from (start_at t)
 
-  pub leading_all : {turn : ℕ} {b : Best} → Leading turn b → 93 ≤ turn
+  pub leading_all : {attempt : ℕ} {b : Best} → Leading attempt b → 93 ≤ attempt
       → (b.found.index ≡ (best_trial k v xs).start) × (b.found.sum ≡ (best_trial k v xs).sum)
   unfolding best_trial
-  leading_all {turn} {b} d h =
+  leading_all {attempt} {b} d h =
       (sym (ap (λ (t : Trial). t.start) e ∙ trial_start k v xs b.found.index (length xs)), d.ran.sum ∙ sym (ap (λ (t : Trial). t.sum) e))
     where
       least : (j : ℕ) → j ≤ 88 → b.found.sum ≤ sum_from j

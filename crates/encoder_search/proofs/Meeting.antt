@@ -9,16 +9,19 @@ use lib.ListN.{length, get_or, set, take, length-set}
 use lib.Seq.{get_or-take}
 use Rattle.lists.specs.Lists.{tabulate}
 use Rattle.lists.proofs.ByIndex.{get_d_tabulate, fill_next, map_at}
+use mir.Syntax.{w16, w32}
+use mir.Val.{SFits, to_z, of_z}
+use Rattle.signed.proofs.Laws.{back16, read16}
 use Rattle.signed.proofs.Raised.{raised-same}
 use Rattle.sqv4_format.specs.Layout.{encoder_version}
 use Rattle.sqv4_format.specs.Step.{stepped}
-use Rattle.sqv4_format.specs.Gain.{normalised, output_gain}
+use Rattle.sqv4_format.specs.Gain.{output_gain}
 use Rattle.sqv4_format.specs.Decode.{InRange}
-use Rattle.sqv4_format.specs.Encode.{square, code_for, trial_step, trial_to}
+use Rattle.sqv4_format.specs.Encode.{target, square, code_for, trial_step, trial_to}
 use Rattle.sqv4_format.specs.declared.Settings.{Settings}
 use Rattle.sqv4_format.specs.declared.State.{State}
 use Rattle.sqv4_format.proofs.Range.{start_range, stepped_range}
-use Rattle.encoder_search.specs.Search.{key, mark_of, marks_of, Ran, tie, Beaten}
+use Rattle.encoder_search.specs.Search.{key, mark_of, marks_of, Ran, equal_wins, Beaten}
 use Rattle.encoder_search.specs.declared.Mark.{Mark}
 use Rattle.encoder_search.specs.declared.Best.{Best}
 use Rattle.encoder_search.proofs.Summed.{Summed, summed_more, over_limit}
@@ -52,13 +55,13 @@ module _ (k : Settings) (v : ℕ) (xs : List ℤ) where
 
   pub record Traced (index i : ℕ) (s : State) (sum : ℕ) (trace : List Mark) : Type 0 where
     pub summed : Summed k v xs index i s sum
-    pub room : length trace ≡ 63
+    pub long : length trace ≡ 63
     pub marked : take i trace ≡ marks_of k v xs index i
 
   module _ {index : ℕ} where
     pub traced_none : {s : State} {trace : List Mark} → Summed k v xs index 0 s 0 → length trace ≡ 63 → Traced index 0 s 0 trace
     unfolding marks_of tabulate
-    traced_none d h = record { summed = d; room = h; marked = refl }
+    traced_none d h = record { summed = d; long = h; marked = refl }
 
     pub traced_more : {i : ℕ} {s t : State} {sum sum' key' : ℕ} {trace : List Mark} → Traced index i s sum trace → i < 63 → key' ≡ key s
         → Summed k v xs index (i + 1) t sum' → Traced index (i + 1) t sum' (set trace i (record { sum = sum; key = key' }))
@@ -66,22 +69,23 @@ module _ (k : Settings) (v : ℕ) (xs : List ℤ) where
     traced_more {i} {s} {t} {sum} {sum'} {key'} {trace} d h e m =
         record {
           summed = m;
-          room = rw length-set d.room;
-          marked = fill_next (λ i. mark_of (trial_to k v xs index i)) trace i (record { sum = sum; key = key' }) (omega (arith, d.room)) d.marked (rw (e, d.summed.state, d.summed.total));
+          long = rw length-set d.long;
+          marked = fill_next (λ i. mark_of (trial_to k v xs index i)) trace i (record { sum = sum; key = key' }) (omega (arith, d.long)) d.marked (rw (e, d.summed.state, d.summed.total));
         }
 
-    -- a sample more, where the targets are the samples normalised
+    -- a sample more, toward its target, as the loop reads them
     pub traced_next : {i : ℕ} {s t : State} {sum q key' : ℕ} {trace : List Mark} {targets : List ℤ} → Traced index i s sum trace
-        → i < length xs → length xs ≤ 63 → targets ≡ map (normalised v) xs → key' ≡ key s
-        → t ≡ stepped encoder_version k.variant s (code_for k.variant s (get_or targets i (pos 0)))
-        → q ≡ square (nat_abs (get_or xs i (pos 0) -ℤ output_gain encoder_version v t.predictor)) → q ≤ 4294967296
-        → Traced index (i + 1) t (sum + q) (set trace i (record { sum = sum; key = key' }))
-    traced_next {i} d h few et ek es eq hq =
-        let y = ap (λ (l : List ℤ). get_or l i (pos 0)) et ∙ map_at (normalised v) xs i (pos 0) (pos 0) h in
-        traced_more d (omega arith) ek (summed_more k v xs index d.summed h refl y es eq hq)
+        → i < length xs → length xs ≤ 63 → targets ≡ map (target k v) xs → SFits w16 (get_or targets i (pos 0)) → SFits w16 (get_or xs i (pos 0)) → InRange t
+        → key' ≡ key s → t ≡ stepped encoder_version k.variant s (code_for k.variant s (to_z w16 (of_z w16 (get_or targets i (pos 0)))))
+        → q ≡ square (nat_abs (to_z w16 (of_z w16 (get_or xs i (pos 0))) -ℤ output_gain encoder_version v (to_z w32 (of_z w32 t.predictor))))
+        → q ≤ 4294967296 → Traced index (i + 1) t (sum + q) (set trace i (record { sum = sum; key = key' }))
+    traced_next {i} {targets = targets} d h few et ft fx r ek es eq hq =
+        let y : get_or targets i (pos 0) ≡ target k v (get_or xs i (pos 0)) = rw et (map_at (target k v) xs i (pos 0) (pos 0) h) in
+        traced_more d (omega arith) ek
+        (summed_more k v xs index d.summed h refl y (rw (back16 _ ft.sfits) at es) (rw (back16 _ fx.sfits, read16 _ r.predictor) at eq) hq)
 
     -- the sum so far is at most the whole
-    pub stopped : {i sum : ℕ} {s : State} {trace : List Mark} {b : Best} → Traced index i s sum trace → b.found.sum + tie index b.found.index ≤ sum
+    pub stopped : {i sum : ℕ} {s : State} {trace : List Mark} {b : Best} → Traced index i s sum trace → b.found.sum + equal_wins index b.found.index ≤ sum
         → Beaten k v xs index b
     stopped d h = record { over = omega (arith, over_limit _ _ _ _ d.summed) }
 
@@ -96,7 +100,7 @@ module _ (k : Settings) (v : ℕ) (xs : List ℤ) where
 
   -- met at i samples
   pub met : {b : Best} {index i key' : ℕ} {s : State} {sum : ℕ} (d : Mark) → Ran k v xs b → Summed k v xs index i s sum → i < length xs → key' ≡ key s
-      → (get_or b.marks i d).key ≡ key' → (get_or b.marks i d).sum + tie index b.found.index ≤ sum → Beaten k v xs index b
+      → (get_or b.marks i d).key ≡ key' → (get_or b.marks i d).sum + equal_wins index b.found.index ≤ sum → Beaten k v xs index b
   met {b} {index} {i} {key'} {s} {sum} d r t h ek e l =
       let m = mark_at d r i h in
       let ed : key (trial_to k v xs index i).state ≡ key (trial_to k v xs b.found.index i).state = ap key (sym t.state) ∙ sym ek ∙ sym e ∙ ap (λ (m : Mark). m.key) m in

@@ -9,9 +9,9 @@ use lib.IntN.{ℤ, pos, nat_abs, ◌-ℤ◌}
 use lib.ListN.{length, get_or}
 use Rattle.sqv4_format.specs.Layout.{encoder_version}
 use Rattle.sqv4_format.specs.Step.{stepped}
-use Rattle.sqv4_format.specs.Gain.{normalised, output_gain}
+use Rattle.sqv4_format.specs.Gain.{output_gain}
 use Rattle.sqv4_format.specs.Decode.{fragment_start}
-use Rattle.sqv4_format.specs.Encode.{square, code_for, trial_step, trial_to}
+use Rattle.sqv4_format.specs.Encode.{target, square, code_for, trial_step, trial_to}
 use Rattle.sqv4_format.specs.declared.State.{State}
 use Rattle.sqv4_format.specs.declared.Settings.{Settings}
 
@@ -28,7 +28,7 @@ module _ (k : Settings) (v : ℕ) (xs : List ℤ) (index : ℕ) where
   summed_none e = record { within = omega arith; state = e; total = refl; small = omega arith }
 
   pub summed_more : {i : ℕ} {s t : State} {sum q : ℕ} {x y : ℤ} → Summed i s sum → i < length xs
-      → x ≡ get_or xs i (pos 0) → y ≡ normalised v x → t ≡ stepped encoder_version k.variant s (code_for k.variant s y)
+      → x ≡ get_or xs i (pos 0) → y ≡ target k v x → t ≡ stepped encoder_version k.variant s (code_for k.variant s y)
       → q ≡ square (nat_abs (x -ℤ output_gain encoder_version v t.predictor)) → q ≤ 4294967296
       → Summed (i + 1) t (sum + q)
   unfolding trial_to trial_step

@@ -26,24 +26,24 @@ pub record Ran (k : Settings) (v : ℕ) (xs : List ℤ) (b : Best) : Type 0 wher
   pub marked : take (length xs) b.marks ≡ marks_of k v xs b.found.index (length xs)
 
 -- what is added to the best sum, so that the sums below it win: at a start below the best's a tie wins
-abbrev pub tie : ℕ → ℕ → ℕ
-tie index best = cond (ltb index best) 1 0
+abbrev pub equal_wins : ℕ → ℕ → ℕ
+equal_wins index best = cond (ltb index best) 1 0
 
 -- the trial from a start index does not win against the best
 pub record Beaten (k : Settings) (v : ℕ) (xs : List ℤ) (index : ℕ) (b : Best) : Type 0 where
-  pub over : b.found.sum + tie index b.found.index ≤ (trial_to k v xs index (length xs)).sum
+  pub over : b.found.sum + equal_wins index b.found.index ≤ (trial_to k v xs index (length xs)).sum
 
 -- another trial wins
 pub record Beats (k : Settings) (v : ℕ) (xs : List ℤ) (b other : Best) : Type 0 where
   pub ran : Ran k v xs other
-  pub less : other.found.sum < b.found.sum + tie other.found.index b.found.index
+  pub wins : other.found.sum < b.found.sum + equal_wins other.found.index b.found.index
 
--- the start of each turn: four bounds, the loudest first, then all
+-- the start of each attempt: four bounds, the loudest first, then all
 unfoldable pub start_at : ℕ → ℕ
-start_at turn = cond (ltb turn 4) (88 - 8 * turn) (turn - 4)
+start_at attempt = cond (ltb attempt 4) (88 - 8 * attempt) (attempt - 4)
 
--- a start that an earlier turn has
-pub record Tried (turn index : ℕ) : Type 0 where
+-- a start that an earlier attempt has
+pub record Tried (attempt index : ℕ) : Type 0 where
   pub when : ℕ
-  pub earlier : when < turn
+  pub earlier : when < attempt
   pub same : start_at when ≡ index

@@ -4,9 +4,9 @@
 ghost use Rattle.std.specs.Prelude.{◌≡◌, map, ◌+◌, ◌<◌, ◌≤◌, true, nat_abs, ◌-ℤ◌, length, MatchOption};
 ghost use Rattle.std.specs.Int.Signed.{mag};
 ghost use Rattle.sqv4_format.specs.Layout.{encoder_version};
-ghost use Rattle.sqv4_format.specs.Gain.{normalised, output_gain};
-ghost use Rattle.sqv4_format.specs.Encode.{square, best_trial};
-ghost use Rattle.encoder_search.specs.Search.{key, Ran, Beaten, Beats, tie, start_at, Tried};
+ghost use Rattle.sqv4_format.specs.Gain.{output_gain};
+ghost use Rattle.sqv4_format.specs.Encode.{target, square, best_trial};
+ghost use Rattle.encoder_search.specs.Search.{key, Ran, Beaten, Beats, equal_wins, start_at, Tried};
 
 use encoder_step::Coder;
 use sqv4_format::{Reached, State};
@@ -14,9 +14,8 @@ use sqv4_format::{Reached, State};
 // How many starts are tried first, as bounds: normalised samples are loud, and want large steps.
 const BOUNDS: u8 = 4;
 
-// A fragment to be encoded by a coder: its volume, its pre-gained samples, and these normalised to full scale. Two slices and not one of
-// pairs: the volume is found from the samples alone, before any is normalised, and the loops of pre-gain and of normalising each go over
-// 16-bit numbers that lie side by side, several at a time.
+// A fragment to be encoded by a coder: its volume, its pre-gained samples, and their targets. Two slices and not one of pairs: the volume
+// is found from the samples alone, and the loops that make them each go over 16-bit numbers that lie side by side, several at a time.
 #[derive(Clone, Copy)]
 pub struct Fragment<'a> {
     pub coder: &'a Coder,
@@ -25,11 +24,10 @@ pub struct Fragment<'a> {
     pub targets: &'a [i16],
     ghost loud: { 0 < volume },
     ghost few: { length xs.now ≤ 63 },
-    ghost full_scale: { targets.now ≡ map (normalised volume) xs.now },
+    ghost full_scale: { targets.now ≡ map (target coder.now.settings volume) xs.now },
 }
 
-// Where a trial stands before a sample: its sum so far, and its state. The state is one number: with a `State` of two fields in its place
-// H took 6 % longer and L 5 % less, and the bar is H, to be encoded at 4.5 times the Rust's speed.
+// Where a trial stands before a sample: its sum so far, and its state as one number, which H is compared faster by.
 #[derive(Clone, Copy)]
 struct Mark {
     sum: u64,
@@ -50,7 +48,7 @@ struct Best {
     marks: [Mark; 63],
 }
 
-// Internal: the square of the distance from a pre-gained sample to the sample that a predictor gives, which comes in 32 bits, as in a state.
+// The square of the distance from a pre-gained sample to the sample that a predictor gives, which comes in 32 bits, as in a state.
 pub fn squared_error(sample: i16, predictor: i32, volume: u8) -> u64
     requires { mag predictor ≤ 32767 }
     ensures { (result ≡ square (nat_abs (sample -ℤ output_gain encoder_version volume predictor))) × (result ≤ 4294967296) }
@@ -69,41 +67,40 @@ fn key_of(state: Reached) -> u64
 }
 
 // Whether a trial with this key and sum stands where the marked one stood, with no sum that wins against it. The mark comes by reference:
-// by value the sum was compared first, and H, to be encoded at 4.5 times the Rust's speed, was 14 % slower.
-fn meets(mark: &Mark, key: u64, tie: u64, sum: u64) -> bool
-    ensures { result ≡ true → (mark.now.key ≡ key) × (mark.now.sum + tie ≤ sum) }
+// by value the sum is compared first, which is slower.
+fn meets(mark: &Mark, key: u64, equal_wins: u64, sum: u64) -> bool
+    ensures { result ≡ true → (mark.now.key ≡ key) × (mark.now.sum + equal_wins ≤ sum) }
 {
-    mark.key == key && tie <= sum && mark.sum <= sum - tie
+    mark.key == key && equal_wins <= sum && mark.sum <= sum - equal_wins
 }
 
 // 1 where a sum equal to the best's wins, since its start is the lower, else 0: the sums below the best's with this added win.
-fn tie(index: u8, best: u8) -> u64
-    ensures { result ≡ tie index best }
+fn equal_wins(index: u8, best: u8) -> u64
+    ensures { result ≡ equal_wins index best }
 {
     u64::from(index < best)
 }
 
-// Internal: the start that a turn tries: first 88, 80, 72 and 64, then all in ascending order. It is a byte, as a fragment stores it;
-// a `StepIndex` has a `usize`, which each of its uses here would have to cast.
+// The start that an attempt tries: first 88, 80, 72 and 64, then all in ascending order. It is a byte, as a fragment stores it.
 #[tactic(auto, unfolding(crate::specs::Search::start_at))]
-fn start_of(turn: u8) -> u8
-    requires { turn < 93 }
-    ensures { (result ≡ start_at turn) × (result ≤ 88) }
+fn start_at(attempt: u8) -> u8
+    requires { attempt < 93 }
+    ensures { (result ≡ start_at attempt) × (result ≤ 88) }
 {
-    if turn < BOUNDS {
-        State::MAX_STEP_INDEX - 8 * turn
+    if attempt < BOUNDS {
+        State::MAX_STEP_INDEX - 8 * attempt
     } else {
-        turn - BOUNDS
+        attempt - BOUNDS
     }
 }
 
-// Internal: whether a start was tried before a turn, as a bound.
+// Whether a start was tried before an attempt, as a bound.
 #[tactic(auto, using(crate::proofs::Leading::bound_tried))]
-fn is_tried(turn: u8, index: u8) -> bool
+fn is_tried(attempt: u8, index: u8) -> bool
     requires { index ≤ 88 }
-    ensures { result ≡ true → Tried turn index }
+    ensures { result ≡ true → Tried attempt index }
 {
-    BOUNDS <= turn && 64 <= index && index % 8 == 0
+    BOUNDS <= attempt && 64 <= index && index % 8 == 0
 }
 
 impl<'a> Fragment<'a> {
@@ -124,17 +121,16 @@ impl<'a> Fragment<'a> {
         sum
     }
 
-    // Internal: the same, for a start that is tried against the best. The trial is given up where its sum can no longer win, and where
-    // it meets the best one: from there on the two go alike. One function with `whole_sum`, over an `Option` of the best, proves, but H,
-    // to be encoded at 4.5 times the Rust's speed, was 6 % slower with it (L and L+ 15 %).
+    // The sum of the trial from a start index, if it wins against the best. The trial is given up where its sum can no longer win, and
+    // where it meets the best one: from there on the two go alike. One function with `whole_sum`, over an `Option`, is slower.
     #[tactic(auto, using(crate::proofs::Meeting::met))]
     fn winning_sum(&self, index: u8, best: &Best, trace: &mut [Mark; 63]) -> Option<u64>
         requires { Ran self.now.coder.now.settings self.now.volume self.now.xs.now best.now }
         ensures { MatchOption result (Beaten self.now.coder.now.settings self.now.volume self.now.xs.now index best.now)
             (λ sum. Beats self.now.coder.now.settings self.now.volume self.now.xs.now best.now (record { found = record { index = index; sum = sum }; marks = trace.new })) }
     {
-        let tie = tie(index, best.found.index);
-        let limit = best.found.sum + tie;
+        let equal_wins = equal_wins(index, best.found.index);
+        let limit = best.found.sum + equal_wins;
         let mut state = Reached::fragment_start(index);
         let mut sum: u64 = 0;
         for (i, x) in self.xs.iter().enumerate() {
@@ -142,7 +138,7 @@ impl<'a> Fragment<'a> {
                 return None;
             }
             let key = key_of(state);
-            if meets(&best.marks[i], key, tie, sum) {
+            if meets(&best.marks[i], key, equal_wins, sum) {
                 return None;
             }
             trace[i] = Mark { sum, key };
@@ -159,15 +155,15 @@ impl<'a> Fragment<'a> {
         ensures sum_value { result.sum ≡ (best_trial self.now.coder.now.settings self.now.volume self.now.xs.now).sum }
     {
         let mut trace = [Mark { sum: 0, key: 0 }; 63];
-        let index = start_of(0);
+        let index = start_at(0);
         let sum = self.whole_sum(index, &mut trace);
         let mut best = Best {
             found: Found { index, sum },
             marks: trace,
         };
-        for turn in 1..93u8 {
-            let index = start_of(turn);
-            if is_tried(turn, index) {
+        for attempt in 1..93u8 {
+            let index = start_at(attempt);
+            if is_tried(attempt, index) {
                 continue;
             }
             if let Some(sum) = self.winning_sum(index, &best, &mut trace) {

@@ -16,7 +16,7 @@ use Rattle.sqv4_format.specs.declared.Variant.TheVariants.{H, L, LPlus}
 use Rattle.sqv4_format.proofs.Range.{stepped_range}
 use Rattle.adpcm.proofs.Bounds.{difference_three, adjustment_three, step_low}
 use Rattle.encoder_step.specs.declared.Sizes.{Sizes}
-use Rattle.encoder_step.specs.Advance.{size_at, Sized, Landed}
+use Rattle.encoder_step.specs.Advance.{size_at, Sized, Ordered, Landed}
 use Rattle.encoder_step.proofs.Cascade.{index_moved}
 use Rattle.encoder_step.proofs.Nearest.{apart, Picked, Chosen, chosen, Lowest, cut, rises, differ, first_only, up_near, up_far, down_near, down_far}
 
@@ -40,14 +40,14 @@ grow LPlus step e h = go (dec_lt step 8)
         rw q (record { some = omega arith; one = omega arith; two = omega arith; three = omega arith })
     go (no l) = record { some = omega arith; one = omega arith; two = omega arith; three = omega arith }
 
-pub sized_order : (variant : Variant) (step : ℕ) {r : Sizes} → bits variant ≡ 3 → 7 ≤ step → Sized variant step r
-    → (r.a ≤ r.d) × (r.b ≤ r.d) × (r.c ≤ r.d)
+pub sized_order : (variant : Variant) (step : ℕ) {r : Sizes} → bits variant ≡ 3 → 7 ≤ step → Sized variant step r → Ordered r
 sized_order variant step e h z =
-    let g = grow variant step e h in (
-      omega (arith, z.first, z.fourth, g.one, g.two, g.three),
-      omega (arith, z.second, z.fourth, g.two, g.three),
-      omega (arith, z.third, z.fourth, g.three),
-    )
+    let g = grow variant step e h in
+    record {
+      first = omega (arith, z.first, z.fourth, g.one, g.two, g.three);
+      second = omega (arith, z.second, z.fourth, g.two, g.three);
+      third = omega (arith, z.third, z.fourth, g.three);
+    }
 
 grows : {f : ℕ → ℕ} → Grow f → (i j : ℕ) → i < j → j < 4 → f i < f j
 grows g zero (suc zero) h l = g.one
@@ -168,18 +168,18 @@ module _ (variant : Variant) (s : State) (input : ℤ) (three : bits variant ≡
   code_is code l =
       ap (λ (c : Choice). c.code) (least_at (λ (c : Choice). c.error) (choice variant s input) 7 code l.within l.least l.first)
 
-  module _ (r room : ℕ) (er : r ≡ apart x p) (ed : x < p → room ≡ p) (eu : p ≤ x → room ≡ 65535 - p) (hx : x ≤ 65535) (hp : p ≤ 65535) where
-    fits : r ≤ room
+  module _ (r headroom : ℕ) (er : r ≡ apart x p) (ed : x < p → headroom ≡ p) (eu : p ≤ x → headroom ≡ 65535 - p) (hx : x ≤ 65535) (hp : p ≤ 65535) where
+    fits : r ≤ headroom
     fits = go (dec_lt x p)
       where
-        go : Dec (x < p) → r ≤ room
+        go : Dec (x < p) → r ≤ headroom
         go (yes l) = omega (arith, ed l)
         go (no l) = let h : p ≤ x = omega arith in omega (arith, eu h)
 
-    module _ {m v : ℕ} (picked : Picked r (cut size room) m v) {u : ℕ} (d : Landed x p (2 * r) v u) (q : ℤ) (i : ℕ)
+    module _ {m v : ℕ} (picked : Picked r (cut size headroom) m v) {u : ℕ} (d : Landed x p (2 * r) v u) (q : ℤ) (i : ℕ)
         (eq : raised q ≡ u) (hq : mag q ≤ 32767) (ei : i ≡ cond (ltb 0 m) (min (s.index + 2 * m) 88) (s.index - 1)) where
-      k : Chosen r (cut size room) m v
-      k = chosen r (cut size room) (rises r room 0 size order some fits) (differ r room 0 size order some fits) picked
+      k : Chosen r (cut size headroom) m v
+      k = chosen r (cut size headroom) (rises r headroom 0 size order some fits) (differ r headroom 0 size order some fits) picked
 
       ends : (code : ℕ) → code % 4 ≡ m → Lowest cost code → u ≡ landing code
           → Stepped q i
@@ -194,7 +194,7 @@ module _ (variant : Variant) (s : State) (input : ℤ) (three : bits variant ≡
           e : p ≡ x + r
           e = omega arith
 
-          toward : (j : ℕ) → j < 4 → cost (4 + j) ≡ apart r (cut size room j)
+          toward : (j : ℕ) → j < 4 → cost (4 + j) ≡ apart r (cut size headroom j)
           toward j h = rw (cost_is (4 + j), down_landing j h, ed l, e) (down_toward x r (size j))
 
           away : (j : ℕ) → j < 4 → cost j ≡ r + cut size (65535 - p) j
@@ -204,16 +204,16 @@ module _ (variant : Variant) (s : State) (input : ℤ) (three : bits variant ≡
           go (yes h) =
               let f = rw (ed l) at k.value in
               ends (4 + m) (omega (arith, k.within))
-              (down_near r room (65535 - p) size order some fits k cost toward away (omega arith) (rw k.value at h))
+              (down_near r headroom (65535 - p) size order some fits k cost toward away (omega arith) (rw k.value at h))
               (d.down l h ∙ down_short p (size m) v f ∙ sym (down_landing m k.within))
           go (no h) =
               let c : 2 * r + (65535 - p) ≤ v = omega arith in
               let z = rw k.value at c in
-              let n = first_only r room (65535 - p) size order some fits k z in
-              ends 0 (sym n) (down_far r room (65535 - p) size order some fits k cost toward away z)
+              let n = first_only r headroom (65535 - p) size order some fits k z in
+              ends 0 (sym n) (down_far r headroom (65535 - p) size order some fits k cost toward away z)
               (d.top l c ∙ sym (up_landing 0 (omega arith) ∙ past (size 0) (rw n at z)))
             where
-              past : (a : ℕ) → 2 * r + (65535 - p) ≤ min a room → min (p + a) 65535 ≡ 65535
+              past : (a : ℕ) → 2 * r + (65535 - p) ≤ min a headroom → min (p + a) 65535 ≡ 65535
               past a z = omega arith
 
       stepped_up : p ≤ x → Stepped q i
@@ -222,7 +222,7 @@ module _ (variant : Variant) (s : State) (input : ℤ) (three : bits variant ≡
           e : x ≡ p + r
           e = omega arith
 
-          toward : (j : ℕ) → j < 4 → cost j ≡ apart r (cut size room j)
+          toward : (j : ℕ) → j < 4 → cost j ≡ apart r (cut size headroom j)
           toward j h = rw (cost_is j, up_landing j h, eu l, e) (up_toward p r (size j) (rw e at hx))
 
           away : (j : ℕ) → j < 4 → cost (4 + j) ≡ r + cut size p j
@@ -231,16 +231,16 @@ module _ (variant : Variant) (s : State) (input : ℤ) (three : bits variant ≡
           go : Dec (2 * r + p < v) → Stepped q i
           go (yes h) =
               let z = rw k.value at h in
-              let n = first_only r room p size order some fits k (omega arith) in
-              ends 4 (sym n) (up_far r room p size order some fits k cost toward away z)
+              let n = first_only r headroom p size order some fits k (omega arith) in
+              ends 4 (sym n) (up_far r headroom p size order some fits k cost toward away z)
               (d.bottom l h ∙ sym (down_landing 0 (omega arith) ∙ past (size 0) (rw n at z)))
             where
-              past : (a : ℕ) → 2 * r + p < min a room → p - a ≡ 0
+              past : (a : ℕ) → 2 * r + p < min a headroom → p - a ≡ 0
               past a z = omega arith
           go (no h) =
               let c : v ≤ 2 * r + p = omega arith in
               let f = rw (eu l) at k.value in
-              ends m (omega (arith, k.within)) (up_near r room p size order some fits k cost toward away (rw k.value at c))
+              ends m (omega (arith, k.within)) (up_near r headroom p size order some fits k cost toward away (rw k.value at c))
               (d.up l c ∙ up_short p (size m) v hp f ∙ sym (up_landing m k.within))
 
       pub l_stepped : Stepped q i

@@ -19,12 +19,18 @@ pub record Sized (variant : Variant) (step : ℕ) (r : Sizes) : Type 0 where
   pub third : r.c ≡ size_at variant step 2
   pub fourth : r.d ≡ size_at variant step 3
 
--- the sizes cut off at a room
-pub record Within (s : Sizes) (room : ℕ) (r : Sizes) : Type 0 where
-  pub first : r.a ≡ min s.a room
-  pub second : r.b ≡ min s.b room
-  pub third : r.c ≡ min s.c room
-  pub fourth : r.d ≡ min s.d room
+-- no size is above the last
+pub record Ordered (r : Sizes) : Type 0 where
+  pub first : r.a ≤ r.d
+  pub second : r.b ≤ r.d
+  pub third : r.c ≤ r.d
+
+-- the sizes cut off at a limit
+pub record Within (s : Sizes) (limit : ℕ) (r : Sizes) : Type 0 where
+  pub first : r.a ≡ min s.a limit
+  pub second : r.b ≡ min s.b limit
+  pub third : r.c ≡ min s.c limit
+  pub fourth : r.d ≡ min s.d limit
 
 -- from the raised predictor p to r: `offset` toward the raised sample x, or the limit behind p, where that is nearer
 pub record Landed (x p twice offset r : ℕ) : Type 0 where

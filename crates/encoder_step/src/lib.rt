@@ -1,6 +1,5 @@
 // The state after the code that the encoder chooses, without the code: for H by what is left of the distance, for L and L+ by three
-// comparisons instead of eight candidates. Two forms of one rule: by `encoder_choice::encode_code` and `adpcm::update` encoding took 47 % longer of
-// H, 96 % of L and 87 % of L+; the bars are 4.5 times the Rust's speed of H, and 6 of L and L+.
+// comparisons instead of eight candidates. The plain form, `encoder_choice::encode_code` and `adpcm::update`, would be too slow for a search.
 #![tactic(auto)]
 
 ghost use Rattle.std.specs.Prelude.{◌≡◌, ◌+◌, ◌-◌, ◌*◌, ◌<◌, ◌≤◌, min, if◌then◌else◌};
@@ -10,7 +9,7 @@ ghost use Rattle.sqv4_format.specs.Layout.{encoder_version, bits};
 ghost use Rattle.sqv4_format.specs.Step.{step_at, stepped};
 ghost use Rattle.sqv4_format.specs.Encode.{h_code, l_code, code_for};
 ghost use Rattle.sqv4_format.specs.declared.Variant.TheVariants as variants;
-ghost use Rattle.encoder_step.specs.Advance.{size_entry, Sized, Within, Landed};
+ghost use Rattle.encoder_step.specs.Advance.{size_entry, Sized, Ordered, Within, Landed};
 
 use sqv4_format::{Coding, Reached, Settings, State, StepIndex, Variant};
 
@@ -49,11 +48,13 @@ impl Pair {
         self.x.abs_diff(self.p)
     }
 
-    // Internal: where the predictor lands by an H code, which leaves `last` of the distance: short of x by that, and on by an eighth of
+    // Where the predictor lands by an H code, which leaves `last` of the distance: short of x by that, and on by an eighth of
     // the step.
     fn h_landed(self, eighth: u32, last: u32) -> u32
         requires { (eighth ≤ 4095) × (last ≤ self.x - self.p + (self.p - self.x)) }
-        ensures { (self.x < self.p → result ≡ self.x + last - eighth) × (self.p ≤ self.x → result ≡ min (self.x + eighth - last) 65535) × (result ≤ 65535) }
+        ensures down { self.x < self.p → result ≡ self.x + last - eighth }
+        ensures up { self.p ≤ self.x → result ≡ min (self.x + eighth - last) 65535 }
+        ensures small { result ≤ 65535 }
     {
         if self.x < self.p {
             (self.x + last).saturating_sub(eighth)
@@ -63,7 +64,7 @@ impl Pair {
     }
 
     // How far the predictor can go toward x.
-    fn room(self) -> u32
+    fn headroom(self) -> u32
         ensures { (self.x < self.p → result ≡ self.p) × (self.p ≤ self.x → result ≡ 65535 - self.p) }
     {
         if self.x < self.p {
@@ -73,7 +74,7 @@ impl Pair {
         }
     }
 
-    // Internal: where the predictor lands by an L or L+ code, `offset` being the nearest toward x: there, unless the limit behind it is
+    // Where the predictor lands by an L or L+ code, `offset` being the nearest toward x: there, unless the limit behind it is
     // nearer, or, where the code toward x is the higher, as near.
     fn l_landed(self, offset: u32) -> u32
         requires { (self.x < self.p → offset ≤ self.p) × (self.p ≤ self.x → offset ≤ 65535 - self.p) }
@@ -125,9 +126,9 @@ pub struct Sizes {
     pub d: u32,
 }
 
-// Internal: the sizes cut off at a limit. Most often none is, and then nothing waits for it.
+// The sizes cut off at a limit. Most often none is, and then nothing waits for it.
 fn within(sizes: Sizes, limit: u32) -> Sizes
-    requires { (sizes.a ≤ sizes.d) × (sizes.b ≤ sizes.d) × (sizes.c ≤ sizes.d) }
+    requires { Ordered sizes }
     ensures { Within sizes limit result }
 {
     if sizes.d <= limit {
@@ -141,9 +142,8 @@ fn within(sizes: Sizes, limit: u32) -> Sizes
     }
 }
 
-// What the encoder needs at each sample: the settings, and the sizes of L or L+ at each index, a row of four for each; of H zeros, which
-// nothing reads. An `Option` of the sizes is no plainer: `l_next` and `sizes_at` would take the sizes, and each ask what they are of. One row
-// behind the other: so one `tabulate` says what they are.
+// What the encoder needs at each sample: the settings, and the sizes of L or L+ at each index, a row of four for each, one behind the
+// other, so that one `tabulate` says what they are; of H zeros, which nothing reads.
 #[derive(Drop)]
 pub struct Coder {
     pub settings: Settings,
@@ -179,8 +179,8 @@ impl Coder {
         }
     }
 
-    // Internal: the state after the L or L+ code for a normalised sample, without the eight candidates: of the four toward the sample the
-    // nearest is the last that lies, together with the one before it, short of twice the distance.
+    // The state after the L or L+ code for a normalised sample, without the eight candidates: of the four toward the sample the nearest
+    // is the last that lies, together with the one before it, short of twice the distance.
     fn l_next(&self, state: Reached, input: i16) -> Reached
         requires { bits self.now.settings.variant ≡ 3 }
         ensures { result.state ≡ stepped encoder_version self.now.settings.variant state.state (l_code self.now.settings.variant state.state input) }
@@ -188,7 +188,7 @@ impl Coder {
         let index = state.index();
         let pair = Pair::of(state, input);
         let twice = 2 * pair.distance();
-        let sizes = within(self.sizes_at(index), pair.room());
+        let sizes = within(self.sizes_at(index), pair.headroom());
         let a = sizes.a;
         let b = sizes.b;
         let c = sizes.c;
@@ -210,8 +210,7 @@ impl Coder {
         }
     }
 
-    // The state after the code for a normalised sample. The two ways share no step, and the variant is known only at run time: hence a
-    // match. A closure or a trait object would be called at each sample and be no plainer.
+    // The state after the code for a normalised sample.
     pub fn next(&self, state: Reached, input: i16) -> Reached
         ensures { result.state ≡ stepped encoder_version self.now.settings.variant state.state (code_for self.now.settings.variant state.state input) }
     {

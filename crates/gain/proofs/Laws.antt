@@ -14,9 +14,9 @@ gain_le m g half hg hh = omega (arith, mul-le-mul_left m hg)
 pub scaled_fits : (g half : ℕ) (x : ℤ) → g ≤ 255 → half ≤ 127 → mag (with_sign (is_neg x) ((nat_abs x * g + half) / 255)) ≤ mag x
 scaled_fits g half x hg hh = mag_with_sign x _ (gain_le (nat_abs x) g half hg hh)
 
-pub normalised-fits : (v : ℕ) (x : ℤ) → mag (normalised v x) ≤ 32767
+pub normalised_fits : (v : ℕ) (x : ℤ) → mag (normalised v x) ≤ 32767
 unfolding normalised
-normalised-fits v x = clamp_fits (on_magnitude (λ m. nearest (m * 255) v) x)
+normalised_fits v x = clamp_fits (on_magnitude (λ m. nearest (m * 255) v) x)
 
 -- the output gain is one division, with the version's rounding
 pub output_scaled : (version v : ℕ) (x : ℤ) → with_sign (is_neg x) ((nat_abs x * v + rounding version) / 255) ≡ output_gain version v x

@@ -1,5 +1,5 @@
 // The gains of a sample: pre-gain, the volume of a fragment, normalising to full scale, and output gain. The definitions stand in
-// format's specs/Gain, the ranges of the results in proofs/Laws.
+// specs/Gain of sqv4_format, the ranges of the results in proofs/Laws.
 #![tactic(auto)]
 
 ghost use Rattle.std.specs.Prelude.{◌≡◌, ◌+◌, ◌*◌, ◌/◌, ◌<◌, ◌≤◌, length, unsigned_abs};
@@ -11,8 +11,8 @@ ghost use Rattle.gain.specs.Rounding.{rounding};
 
 use sqv4_format::Coding;
 
-// Internal: m * gain / 255, by the two halves of 257 * m * gain: 257 * 255 is 65535, so that the high half is the quotient, or one
-// less where the halves together with what is added reach 65535. With 16-bit numbers only, eight are worked out at a time.
+// m * gain / 255, by the two halves of 257 * m * gain: 257 * 255 is 65535, so that the high half is the quotient, or one less where the
+// halves together with what is added reach 65535. With 16-bit numbers only, eight are worked out at a time.
 fn quotient(m: u16, gain: u8, half: u32) -> u16
     requires { (m ≤ 32768) × (half ≤ 127) }
     ensures { result ≡ (m * gain + half) / 255 }
@@ -30,8 +30,9 @@ fn quotient(m: u16, gain: u8, half: u32) -> u16
     }
 }
 
-// Internal: x * gain / 255 on the magnitude, the sign kept: cut toward zero where `half` is 0, to nearest where it is 127. `half` is a
-// number and not an enum of the two roundings, since it is what is added before the division, and the contract holds for each up to 127.
+// x * gain / 255 on the magnitude, the sign kept: cut toward zero where `half` is 0, to nearest where it is 127. `half` is a number and
+// not an enum of the two roundings, since it is what is added before the division, and the contract holds for each up to 127.
+#[tactic(auto, using(signed::proofs::Laws::back32, signed::proofs::Laws::is_neg_is, crate::proofs::Laws::scaled_fits))]
 pub fn scaled(x: i16, gain: u8, half: u32) -> i16
     requires { half ≤ 127 }
     ensures { result ≡ with_sign (is_neg x) ((unsigned_abs x * gain + half) / 255) }
@@ -40,6 +41,7 @@ pub fn scaled(x: i16, gain: u8, half: u32) -> i16
 }
 
 // Pre-gain: sample * gain / 255, cut toward zero.
+#[tactic(auto, using(signed::proofs::Laws::back16), unfolding(sqv4_format::specs::Gain::pregained, signed::specs::Signed::on_magnitude))]
 pub fn pre_gain(sample: i16, gain: u8) -> i16
     ensures { result ≡ pregained gain sample }
 {
@@ -57,7 +59,7 @@ pub fn peak_of(samples: &[i16]) -> u16
         .unwrap_or(0)
 }
 
-// Internal: the least volume whose full scale covers the peak, at most 255.
+// The least volume whose full scale covers the peak, at most 255.
 fn volume_of(peak: u16) -> u8
     requires { peak ≤ 32768 }
     ensures { result ≡ volume_of peak }
@@ -73,8 +75,9 @@ pub fn fragment_volume(samples: &[i16]) -> u8
     volume_of(peak_of(samples))
 }
 
-// Internal: a sample at the fragment's full scale: sample * 255 / volume to nearest, half away from zero, clamped to 16 bits.
-pub fn normalize(sample: i16, volume: u8) -> i16
+// A sample at the fragment's full scale: sample * 255 / volume to nearest, half away from zero, clamped to 16 bits.
+#[tactic(auto, using(signed::proofs::Laws::back32, crate::proofs::Laws::normalised_fits), unfolding(sqv4_format::specs::Gain::normalised, signed::specs::Signed::on_magnitude))]
+pub fn normalise(sample: i16, volume: u8) -> i16
     requires { 0 < volume }
     ensures { result ≡ normalised volume sample }
 {
@@ -91,16 +94,16 @@ pub fn rounding(coding: Coding) -> u32
 }
 
 // The output gain: reconstructed * volume / 255, from version 3 on to nearest, half away from zero, and before it cut toward zero.
+#[tactic(auto, using(signed::proofs::Laws::back16, crate::proofs::Laws::output_scaled))]
 pub fn output_gain(coding: Coding, reconstructed: i16, volume: u8) -> i16
     ensures { result ≡ output_gain coding.version volume reconstructed }
 {
     scaled(reconstructed, volume, rounding(coding))
 }
 
-// Internal: the output gain of version 3 on raised numbers. No product with a volume lies halfway between two multiples of 255, so
-// that one division rounds numbers of both signs to nearest. Two forms of one rule: with `output_gain` and a distance of 16-bit numbers in
-// its place, encoding took 4 % longer of H, 9 % of L and 8 % of L+; the bars are 4.5 times the Rust's speed of H, and 6 of L and L+. The
-// predictor comes in 32 bits, as in a state.
+// `output_gain` of the encoder's version on raised numbers, for the search, which is faster with it. No product with a volume lies halfway
+// between two multiples of 255, so that one division rounds numbers of both signs to nearest.
+#[tactic(auto, using(signed::proofs::Laws::read16, crate::proofs::Raised::raised_gain))]
 pub fn raised_output(reconstructed: i32, volume: u8) -> u32
     requires { mag reconstructed ≤ 32767 }
     ensures { (result ≡ raised (output_gain encoder_version volume reconstructed)) × (result ≤ 65535) }

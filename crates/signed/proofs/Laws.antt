@@ -123,8 +123,6 @@ clamp_pos n h = omega (arith, ints, clamps, clamp16_is (pos n))
 pub clamp_neg : (n : ℕ) → n ≤ 32768 → clamp16 (neg_ℤ (pos n)) ≡ neg_ℤ (pos n)
 clamp_neg n h = omega (arith, ints, clamps, clamp16_is (neg_ℤ (pos n)))
 
--- ---- a signed number fits 16 bits, by the two tests of its bounds
-
 -- ---- the depth of a 16-bit number below 32767
 pub depth_is : (z : ℤ) → mag z ≤ 32767 → pos 32767 -ℤ z ≡ pos (depth z)
 unfolding depth

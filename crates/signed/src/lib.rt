@@ -8,7 +8,7 @@ ghost use Rattle.std.specs.Int.Signed.{mag};
 ghost use Rattle.digits.specs.Digits.{stored};
 ghost use Rattle.signed.specs.Signed.{is_neg, with_sign, clamp16, clamp_to, raised, depth, of_twos, to_twos};
 
-// Internal: the number with magnitude m, negated where `negative`.
+// The number with magnitude m, negated where `negative`.
 #[tactic(auto, unfolding(crate::specs::Signed::with_sign))]
 pub fn with_sign(negative: bool, m: u32) -> i32
     requires { m < 2 ^ 31 }
@@ -18,7 +18,7 @@ pub fn with_sign(negative: bool, m: u32) -> i32
     if negative { -x } else { x }
 }
 
-// Internal: the number with magnitude m and the sign of x.
+// The number with magnitude m and the sign of x.
 #[tactic(auto, using(crate::proofs::Laws::is_neg_is))]
 pub fn sign_like(x: i32, m: u32) -> i32
     requires { m < 2 ^ 31 }
@@ -35,7 +35,7 @@ pub fn clamp16(x: i32) -> i32
     x.clamp(-32768, 32767)
 }
 
-// Internal: the sum, clamped to -32768..=32767.
+// The sum, clamped to -32768..=32767.
 pub fn add_clamp16(x: i32, y: i32) -> i32
     requires { nat_abs x + nat_abs y < 2 ^ 31 }
     ensures { result ≡ clamp16 (x +ℤ y) }
@@ -51,7 +51,7 @@ pub fn add_clamp_to(x: u32, y: i32, top: u32) -> u32
     x.saturating_add_signed(y).min(top)
 }
 
-// Internal: a number of 16 bits, raised to 0..=65535. It comes in 32 bits, as the predictor of a state does, which is laid out for C.
+// A number of 16 bits, raised to 0..=65535. It comes in 32 bits, as the predictor of a state does, which is laid out for C.
 #[tactic(auto, using(crate::proofs::Raised::raise_is, crate::proofs::Raised::raised_high))]
 pub fn raise(x: i32) -> u32
     requires { mag x ≤ 32767 }
@@ -60,7 +60,7 @@ pub fn raise(x: i32) -> u32
     (x + 32768) as u32
 }
 
-// Internal: the number of 16 bits that is raised to u.
+// The number of 16 bits that is raised to u.
 pub fn lower(u: u32) -> i32
     requires { u ≤ 65535 }
     ensures { result ≡ pos u -ℤ pos 32768 }
@@ -68,8 +68,7 @@ pub fn lower(u: u32) -> i32
     u as i32 - 32768
 }
 
-// Internal: how far a 16-bit number lies below 32767. It is 65535 less `raise` of it, which would need that
-// law and a second subtraction: no plainer. The number comes in 32 bits, as the predictor of a state does.
+// How far a 16-bit number lies below 32767. The number comes in 32 bits, as the predictor of a state does.
 #[tactic(auto, using(crate::proofs::Laws::depth_is, crate::proofs::Laws::depth_le))]
 pub fn depth(x: i32) -> u32
     requires { mag x ≤ 32767 }
@@ -78,7 +77,7 @@ pub fn depth(x: i32) -> u32
     (32767 - x) as u32
 }
 
-// Internal: the 16-bit number that lies so far below 32767.
+// The 16-bit number that lies so far below 32767.
 pub fn at_depth(depth: u32) -> i16
     requires { depth ≤ 65535 }
     ensures { result ≡ pos 32767 -ℤ pos depth }

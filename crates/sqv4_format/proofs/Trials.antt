@@ -14,8 +14,7 @@ use Rattle.digits.proofs.Laws.{Small}
 use Rattle.sqv4_format.proofs.Sizes.{part_le}
 use Rattle.sqv4_format.specs.Layout.{bits}
 use Rattle.sqv4_format.specs.Step.{step_at}
-use Rattle.sqv4_format.specs.Gain.{normalised}
-use Rattle.sqv4_format.specs.Encode.{take_off, h_code, Choice, choice, l_code, code_for, Trial, trial_step, trial_to, best_trial, silent_trial, best_or_silent}
+use Rattle.sqv4_format.specs.Encode.{target, take_off, h_code, Choice, choice, l_code, code_for, Trial, trial_step, trial_to, best_trial, silent_trial, best_or_silent}
 use Rattle.sqv4_format.specs.declared.Variant.{Variant}
 use Rattle.sqv4_format.specs.declared.Variant.TheVariants.{H, L, LPlus}
 use Rattle.sqv4_format.specs.declared.State.{State}
@@ -71,12 +70,12 @@ module _ (k : Settings) (v : ℕ) (xs : List ℤ) where
   trial_wrote index h zero = record { start = h; few = omega arith; small = λ i. pow_pos (bits k.variant) }
   trial_wrote index h (suc n) =
       let t = trial_to k v xs index n in
-      let code = code_for k.variant t.state (normalised v (get_or xs n (pos 0))) in
+      let code = code_for k.variant t.state (target k v (get_or xs n (pos 0))) in
       let w = trial_wrote index h n in
       record {
         start = w.start;
         few = omega (arith, length-append t.codes (code ∷ []), w.few);
-        small = small_snoc (bits k.variant) t.codes code w.small (code_lt k.variant t.state (normalised v (get_or xs n (pos 0))));
+        small = small_snoc (bits k.variant) t.codes code w.small (code_lt k.variant t.state (target k v (get_or xs n (pos 0))));
       }
 
   pub best_wrote : Wrote k.variant (length xs) (best_trial k v xs)

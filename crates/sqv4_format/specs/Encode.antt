@@ -14,7 +14,11 @@ use Rattle.sqv4_format.specs.declared.State.{State}
 use Rattle.sqv4_format.specs.declared.Header.{Header}
 use Rattle.sqv4_format.specs.declared.Settings.{Settings}
 
--- ---- the code for one normalised sample
+-- ---- the code for one sample
+
+-- what the codes of a sample go toward: the sample at the fragment's full scale
+abbrev pub target : Settings → ℕ → ℤ → ℤ
+target k volume x = normalised volume x
 
 -- the bit where the threshold fits into the difference's magnitude d, and what is left when it is taken off
 abbrev pub fit_bit : ℕ → ℕ → ℕ → ℕ
@@ -64,7 +68,7 @@ square n = n * n
 -- one pre-gained sample x more, at volume v
 unfoldable pub trial_step : Settings → ℕ → Trial → ℤ → Trial
 trial_step k v t x =
-    let code = code_for k.variant t.state (normalised v x) in
+    let code = code_for k.variant t.state (target k v x) in
     let s = stepped encoder_version k.variant t.state code in
     record {
       start = t.start;

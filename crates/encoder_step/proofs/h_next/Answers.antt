@@ -8,16 +8,16 @@ returns c =
     let l = c.lower in
     let u = c.h_landed.ensures in
     let s = c.args.state in
-    let z = lowered u.2 l.type_inv l.ensures in
+    let z = lowered u.small l.type_inv l.ensures in
     h_stepped s.state c.args.input s.in_range (omega (arith, c.ranges.input.sfits)) _ _ _ _ _ _ _
-    (rw c.index-index.ensures at c.step_size-step.ensures.0)
+    (rw c.index-index.ensures at c.step_size-step.ensures.value)
     (rw (to_z-of_z c.ranges.input) at c.of-pair.ensures.0)
     c.of-pair.ensures.1
     c.distance-d.ensures
     c.take_off-half.ensures
     c.take_off-quarter.ensures
     c.take_off-last.ensures
-    _ _ _ _ u.0 u.1
+    _ _ _ _ u.down u.up
     z.0 z.1
     (rw c.index-index.ensures at c.moved.ensures)
     (omega (arith, c.part_of.ensures.0, c.part_of-2.ensures.0))

@@ -2,5 +2,5 @@
 use Rattle.encoder_search.proofs.Leading.{Leading}
 use Rattle.encoder_search.proofs.Fragment.best_start.Given as goal
 
-abbrev pub invariant-loop-turn : goal.invariant-loop-turn
-invariant-loop-turn l = Leading l.self.coder.now.settings l.self.volume l.self.xs.now l.turn l.best
+abbrev pub invariant-loop-attempt : goal.invariant-loop-attempt
+invariant-loop-attempt l = Leading l.self.coder.now.settings l.self.volume l.self.xs.now l.attempt l.best

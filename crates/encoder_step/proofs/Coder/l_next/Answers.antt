@@ -20,7 +20,7 @@ paired e k = rw e k
 
 -- what the three tests pick
 picked : (c : After-moved) →
-    Picked c.distance-twice.result (cut (size_at c.args.self.now.settings.variant (step_at c.args.state.state.index)) c.room.result)
+    Picked c.distance-twice.result (cut (size_at c.args.self.now.settings.variant (step_at c.args.state.state.index)) c.headroom.result)
     c.if-c-d.m.0 c.if-c-d.m.1
 picked c =
     let z = rw c.index-index.ensures at c.sizes_at.ensures in
@@ -46,7 +46,7 @@ returns c =
     refl
     (rw (to_z-of_z c.ranges.input) at e.ensures.0)
     e.ensures.1
-    _ _ c.distance-twice.ensures c.room.ensures.0 c.room.ensures.1 e.result.raised.0 e.result.raised.1
+    _ _ c.distance-twice.ensures c.headroom.ensures.0 c.headroom.ensures.1 e.result.raised.0 e.result.raised.1
     (picked (goal.at.returns c).After-moved)
     (rw (← c.distance-twice.ensures) at c.l_landed.ensures)
     _ _ z.0 z.1

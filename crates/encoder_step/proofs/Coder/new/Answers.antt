@@ -7,4 +7,4 @@ pub loop-k-init : goal.loop-k-init
 loop-k-init c = filled_none _ _ refl
 
 pub loop-k-preserved : goal.loop-k-preserved
-loop-k-preserved c = filled_more _ _ c.loop-k.invariant (omega arith) (rw (c.l_size.ensures.0, c.level-level.ensures.0, c.written-coding.ensures, c.step_size-step.ensures.0))
+loop-k-preserved c = filled_more _ _ c.loop-k.invariant (omega arith) (rw (c.l_size.ensures.0, c.level-level.ensures.0, c.written-coding.ensures, c.step_size-step.ensures.value))
