@@ -25,7 +25,7 @@ use Rattle.wav_format.proofs.Plain.{plain, PlainRefusal, plain_refusals}
 use Rattle.wav_format.proofs.Within.{samples_within}
 use Rattle.wav_samples.proofs.Samples.{length_samples}
 use Rattle.commands.specs.Commands.{encode_whole, encode_wave, converted, reported}
-use Rattle.commands.specs.declared.TheConstants.{READ}
+use Rattle.commands.specs.declared.TheConstants.{READ_AT_MOST}
 use Rattle.commands.proofs.Printing.{long_refused, stream_too_long}
 use Rattle.commands.specs.Cases.{converter_refused, pinned}
 use Rattle.commands.proofs.Checks.{pinned_hold}
@@ -85,22 +85,22 @@ wave_refusals k file few =
 -- ---- a program reads one byte more than it takes: what it prints for those bytes is what it prints for the whole input
 
 module _ (input : List ℕ) where
-  read_all : length input ≤ 65536 → take READ input ≡ input
-  read_all few = take_all READ input (omega arith)
+  read_all : length input ≤ 65536 → take READ_AT_MOST input ≡ input
+  read_all few = take_all READ_AT_MOST input (omega arith)
 
-  read_more : 65536 < length input → 65536 < length (take READ input)
+  read_more : 65536 < length input → 65536 < length (take READ_AT_MOST input)
   read_more more = simp length-take (omega arith)
 
-  pub convert_reads_enough : converted (take READ input) ≡ converted input
+  pub convert_reads_enough : converted (take READ_AT_MOST input) ≡ converted input
   convert_reads_enough = go (dec_lt 65536 (length input))
     where
-      go : Dec (65536 < length input) → converted (take READ input) ≡ converted input
-      go (yes more) = sym (long_refused (take READ input) (read_more more)) ∙ long_refused input more
+      go : Dec (65536 < length input) → converted (take READ_AT_MOST input) ≡ converted input
+      go (yes more) = sym (long_refused (take READ_AT_MOST input) (read_more more)) ∙ long_refused input more
       go (no few) = ap converted (read_all (omega arith))
 
-  pub report_reads_enough : reported (take READ input) ≡ reported input
+  pub report_reads_enough : reported (take READ_AT_MOST input) ≡ reported input
   report_reads_enough = go (dec_lt 65536 (length input))
     where
-      go : Dec (65536 < length input) → reported (take READ input) ≡ reported input
-      go (yes more) = sym (stream_too_long (take READ input) (read_more more)) ∙ stream_too_long input more
+      go : Dec (65536 < length input) → reported (take READ_AT_MOST input) ≡ reported input
+      go (yes more) = sym (stream_too_long (take READ_AT_MOST input) (read_more more)) ∙ stream_too_long input more
       go (no few) = ap reported (read_all (omega arith))

@@ -10,7 +10,7 @@ use Rattle.outcome.proofs.Laws.{refusing_if, refusing_then, refusing_so}
 use Rattle.sqv4_format.specs.Layout.{variant_of}
 use Rattle.wav_format.proofs.Plain.{PlainRefusal}
 use Rattle.commands.specs.Commands.{converted, reported}
-use Rattle.commands.specs.declared.TheConstants.{READ}
+use Rattle.commands.specs.declared.TheConstants.{READ_AT_MOST}
 use Rattle.commands.proofs.Printing.{long_refused}
 use Rattle.commands.proofs.Claims as claims
 
@@ -41,8 +41,8 @@ converter_refusals input = go (dec_lt 65536 (length input))
         (λ v e. refusing_so PlainRefusal ConverterRefusal (λ n vs p other eight. p) _ (claims.wave_refusals _ (drop 2 input) (simp length-drop (omega arith))))))
 
 -- two inputs that are the same as far as a program reads are converted, and reported, alike
-pub converted_alike : (a b : List ℕ) → take READ a ≡ take READ b → converted a ≡ converted b
+pub converted_alike : (a b : List ℕ) → take READ_AT_MOST a ≡ take READ_AT_MOST b → converted a ≡ converted b
 converted_alike a b e = sym (claims.convert_reads_enough a) ∙ ap converted e ∙ claims.convert_reads_enough b
 
-pub reported_alike : (a b : List ℕ) → take READ a ≡ take READ b → reported a ≡ reported b
+pub reported_alike : (a b : List ℕ) → take READ_AT_MOST a ≡ take READ_AT_MOST b → reported a ≡ reported b
 reported_alike a b e = sym (claims.report_reads_enough a) ∙ ap reported e ∙ claims.report_reads_enough b

@@ -19,19 +19,19 @@ use std::io::{Read, Write};
 use text::Printer;
 
 // The most bytes that a program takes, and what it reads into: one byte more, so that a longer input is seen.
-pub const MOST: usize = 65536;
+pub const MOST_INPUT: usize = 65536;
 
-pub const READ: usize = MOST + 1;
+pub const READ_AT_MOST: usize = MOST_INPUT + 1;
 
 // The most samples that an input has.
-const SAMPLES: usize = MOST / 2;
+const MOST_SAMPLES: usize = MOST_INPUT / 2;
 
 // Room for the longest answer: a header's line and the lines of 2,620 fragments, of at most 128 bytes each. The streams are shorter.
 // The output is lent and its later places stay, so how many bytes of it are the answer comes back beside it.
-pub const ROOM: usize = 335488;
+pub const OUTPUT_SIZE: usize = 335488;
 
 // The line of a refusal, at the front of the output. The answer is how many bytes there are.
-fn put_refusal(error: Error, out: &mut [u8; ROOM]) -> usize
+fn put_refusal(error: Error, out: &mut [u8; OUTPUT_SIZE]) -> usize
     ensures { Put out.old 0 (refusal_line (number_of error) (values_of error)) out.new result }
 {
     let mut page = Printer::new(out);
@@ -39,9 +39,9 @@ fn put_refusal(error: Error, out: &mut [u8; ROOM]) -> usize
     page.count()
 }
 
-// Internal: the report on a stream, at the front of the output. That the input has at most MOST bytes is asked here and in the two functions
+// Internal: the report on a stream, at the front of the output. That the input has at most MOST_INPUT bytes is asked here and in the two functions
 // below: what each takes of it is of another type.
-fn put_report(stream: &Stream, out: &mut [u8; ROOM]) -> usize
+fn put_report(stream: &Stream, out: &mut [u8; OUTPUT_SIZE]) -> usize
     requires { length stream.now.file.now ≤ 65536 }
     ensures { Put out.old 0 (report stream.now.file.now stream.now.header) out.new result }
 {
@@ -54,7 +54,7 @@ fn put_report(stream: &Stream, out: &mut [u8; ROOM]) -> usize
 }
 
 // The report on the stream that the input is, at the front of the output.
-fn inspect(input: &[u8], out: &mut [u8; ROOM]) -> Result<usize, Error>
+fn inspect(input: &[u8], out: &mut [u8; OUTPUT_SIZE]) -> Result<usize, Error>
     requires { length input.now ≤ 65536 }
     ensures { Gives (reported input.now) out.old result out.new }
 {
@@ -69,7 +69,7 @@ fn inspect(input: &[u8], out: &mut [u8; ROOM]) -> Result<usize, Error>
 }
 
 // The stream that the input's variant byte, gain byte and WAV give, at the front of the output.
-fn encode(input: &[u8], out: &mut [u8; ROOM]) -> Result<usize, Error>
+fn encode(input: &[u8], out: &mut [u8; OUTPUT_SIZE]) -> Result<usize, Error>
     requires { length input.now ≤ 65536 }
     ensures { Gives (converted input.now) out.old result out.new }
 {
@@ -81,18 +81,18 @@ fn encode(input: &[u8], out: &mut [u8; ROOM]) -> Result<usize, Error>
         gain: *gain,
     };
     let wave = wav::read_pcm16_wave(file)?;
-    let mut pcm = [0i16; SAMPLES];
+    let mut pcm = [0i16; MOST_SAMPLES];
     let samples = parts::shown(file, wave.samples);
     let count = wav_samples::load_samples(samples, &mut pcm)?;
     let channels = wave.channels as u8;
     encoder::encode(settings, &pcm[..count], channels, wave.rate, out)
 }
 
-// What a command prints: the result that it gives for an input of at most MOST bytes, which is at the front of the output then, or the line
+// What a command prints: the result that it gives for an input of at most MOST_INPUT bytes, which is at the front of the output then, or the line
 // of a refusal. The answer is how many bytes there are.
-fn print<F: Fn(&[u8], &mut [u8; ROOM]) -> Result<usize, Error>>(
+fn print<F: Fn(&[u8], &mut [u8; OUTPUT_SIZE]) -> Result<usize, Error>>(
     input: &[u8],
-    out: &mut [u8; ROOM],
+    out: &mut [u8; OUTPUT_SIZE],
     command: F,
 ) -> usize
     requires { (lent : _) → length input.now ≤ 65536 → F.pre command input lent }
@@ -100,7 +100,7 @@ fn print<F: Fn(&[u8], &mut [u8; ROOM]) -> Result<usize, Error>>(
         → ((lent : _) (answer : _) (after : _) → F.post command input.entry lent answer after → Gives o lent.now answer after.now)
         → IsPrefixLen result out.new × Put out.old 0 (printed o) out.new result }
 {
-    if MOST < input.len() {
+    if MOST_INPUT < input.len() {
         return put_refusal(Error::InputSize, out);
     }
     match command(input, out) {
@@ -111,7 +111,7 @@ fn print<F: Fn(&[u8], &mut [u8; ROOM]) -> Result<usize, Error>>(
 
 // The converter: the stream that the variant byte, the gain byte and the WAV of the input give, or a refusal's line, at the front of the
 // output. The answer is how many bytes there are.
-pub fn convert(input: &[u8], out: &mut [u8; ROOM]) -> usize
+pub fn convert(input: &[u8], out: &mut [u8; OUTPUT_SIZE]) -> usize
     ensures prefix_len { IsPrefixLen result out.new }
     ensures put { Put out.old 0 (printed (converted input.now)) out.new result }
 {
@@ -120,7 +120,7 @@ pub fn convert(input: &[u8], out: &mut [u8; ROOM]) -> usize
 
 // The inspector: the report on the stream that the input is, or a refusal's line, at the front of the output. The answer is how many bytes
 // there are.
-pub fn report(input: &[u8], out: &mut [u8; ROOM]) -> usize
+pub fn report(input: &[u8], out: &mut [u8; OUTPUT_SIZE]) -> usize
     ensures prefix_len { IsPrefixLen result out.new }
     ensures put { Put out.old 0 (printed (reported input.now)) out.new result }
 {
@@ -128,7 +128,7 @@ pub fn report(input: &[u8], out: &mut [u8; ROOM]) -> usize
 }
 
 // Internal: a program. It reads what it takes and one byte. Of the standard streams no contract says what is left: tests/command tries those.
-pub fn run<R: Read + Drop, W: Write, F: Fn(&[u8], &mut [u8; ROOM]) -> usize>(
+pub fn run<R: Read + Drop, W: Write, F: Fn(&[u8], &mut [u8; OUTPUT_SIZE]) -> usize>(
     source: R,
     sink: &mut W,
     command: F,
@@ -136,12 +136,12 @@ pub fn run<R: Read + Drop, W: Write, F: Fn(&[u8], &mut [u8; ROOM]) -> usize>(
     requires callable { F.IsAlwaysCallable command }
     requires prints { (input : _) (out : _) (count : _) (after : _) → F.post command input out count after → IsPrefixLen count after.now }
     ensures { OnOk result ((input : _) × (out : _) × (count : _) × (after : _) × F.post command input out count after
-        × (length input.now ≤ READ) × IfSome (R.remaining source) (λ bytes. input.now ≡ take READ bytes)
+        × (length input.now ≤ READ_AT_MOST) × IfSome (R.remaining source) (λ bytes. input.now ≡ take READ_AT_MOST bytes)
         × Appends (W.contents sink.old) (W.contents sink.new) (take count after.now)) }
 {
-    let mut input = ArrayVec::<u8, READ>::new();
-    io::copy(&mut source.take(READ as u64), &mut input)?;
-    let mut out = [0u8; ROOM];
+    let mut input = ArrayVec::<u8, READ_AT_MOST>::new();
+    io::copy(&mut source.take(READ_AT_MOST as u64), &mut input)?;
+    let mut out = [0u8; OUTPUT_SIZE];
     let count = command(input.as_slice(), &mut out);
     sink.write_all(&out[..count])
 }

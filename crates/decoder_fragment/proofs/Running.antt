@@ -30,25 +30,25 @@ use Rattle.decoder_fragment.specs.Play.{depth_at, Ran, AllRan, Started, Finished
 pub record Turning (version : ℕ) (variant : Variant) (codes : List (List ℕ)) (starts : List Kept) (n i j : ℕ) (depths : List (List ℕ)) (lanes : List Kept) : Type 0 where
   pub depths_long : length depths ≡ n
   pub lanes_long : length lanes ≡ n
-  pub before : (k : ℕ) → k < j → (d : Kept) → Ran version variant (get_or codes k []) (state_of variant (get_or starts k d).point) (i + 1) (get_or depths k []) (get_or lanes k d)
-  pub behind : (k : ℕ) → j ≤ k → k < n → (d : Kept) → Ran version variant (get_or codes k []) (state_of variant (get_or starts k d).point) i (get_or depths k []) (get_or lanes k d)
+  pub before : (k : ℕ) → k < j → (d : Kept) → Ran version variant (get_or codes k []) (state_of variant (get_or starts k d).table_state) (i + 1) (get_or depths k []) (get_or lanes k d)
+  pub behind : (k : ℕ) → j ≤ k → k < n → (d : Kept) → Ran version variant (get_or codes k []) (state_of variant (get_or starts k d).table_state) i (get_or depths k []) (get_or lanes k d)
 
 module _ {version : ℕ} {variant : Variant} where
   -- ---- one lane
 
   module _ {codes : List ℕ} {s : State} where
-    pub ran_none : {depths : List ℕ} {lane : Kept} → length depths ≡ 64 → lane.variant ≡ variant → s ≡ state_of variant lane.point
+    pub ran_none : {depths : List ℕ} {lane : Kept} → length depths ≡ 64 → lane.variant ≡ variant → s ≡ state_of variant lane.table_state
         → Ran version variant codes s 0 depths lane
     unfolding after tabulate
     ran_none l v e = record { long = l; variant_is = v; done = refl; state = sym e }
 
     pub ran_more : {i x : ℕ} {depths : List ℕ} {lane next : Kept} → Ran version variant codes s i depths lane → i < 64 → next.variant ≡ variant
-        → state_of variant next.point ≡ stepped version variant (state_of variant lane.point) (get_or codes i 0)
-        → x ≡ depth (state_of variant next.point).predictor
+        → state_of variant next.table_state ≡ stepped version variant (state_of variant lane.table_state) (get_or codes i 0)
+        → x ≡ depth (state_of variant next.table_state).predictor
         → Ran version variant codes s (i + 1) (set depths i x) next
     unfolding after
     ran_more {i} {x} {depths} {lane} {next} r l v e ex =
-        let here : state_of variant next.point ≡ after version variant codes s (suc i) = e ∙ rw r.state in
+        let here : state_of variant next.table_state ≡ after version variant codes s (suc i) = e ∙ rw r.state in
         record {
           long = simp length-set r.long;
           variant_is = v;
@@ -67,8 +67,8 @@ module _ {version : ℕ} {variant : Variant} where
 
     pub turning_more : {depths : List (List ℕ)} {lanes : List Kept} {j x : ℕ} (lane next : Kept) → Turning version variant codes starts n i j depths lanes → j < n → i < 64
         → lane ≡ get_or lanes j lane → next.variant ≡ variant
-        → state_of variant next.point ≡ stepped version variant (state_of variant (get_or lanes j lane).point) (get_or (get_or codes j []) i 0)
-        → x ≡ depth (state_of variant next.point).predictor
+        → state_of variant next.table_state ≡ stepped version variant (state_of variant (get_or lanes j lane).table_state) (get_or (get_or codes j []) i 0)
+        → x ≡ depth (state_of variant next.table_state).predictor
         → Turning version variant codes starts n i (j + 1) (set depths j (set (get_or depths j []) i x)) (set lanes j next)
     turning_more {depths} {lanes} {j} {x} lane next t h l is v e ex =
         record {
@@ -80,13 +80,13 @@ module _ {version : ℕ} {variant : Variant} where
               (t.behind k (omega arith) o d);
         }
       where
-        now : (d : Kept) → Ran version variant (get_or codes j []) (state_of variant (get_or starts j d).point) (i + 1) (set (get_or depths j []) i x) next
+        now : (d : Kept) → Ran version variant (get_or codes j []) (state_of variant (get_or starts j d).table_state) (i + 1) (set (get_or depths j []) i x) next
         now d =
             let same : get_or lanes j lane ≡ get_or lanes j d = sym is ∙ get_or_read lanes j lane (omega (arith, t.lanes_long)) is d in
-            ran_more (t.behind j (omega arith) h d) l v (e ∙ ap (λ q. stepped version variant (state_of variant q.point) (get_or (get_or codes j []) i 0)) same) ex
+            ran_more (t.behind j (omega arith) h d) l v (e ∙ ap (λ q. stepped version variant (state_of variant q.table_state) (get_or (get_or codes j []) i 0)) same) ex
 
         go : (k : ℕ) (d : Kept) → Dec (k ≡ j) → k ≤ j
-            → Ran version variant (get_or codes k []) (state_of variant (get_or starts k d).point) (i + 1)
+            → Ran version variant (get_or codes k []) (state_of variant (get_or starts k d).table_state) (i + 1)
             (get_or (set depths j (set (get_or depths j []) i x)) k []) (get_or (set lanes j next) k d)
         go k d (yes q) m =
             rw (
@@ -102,10 +102,10 @@ module _ {version : ℕ} {variant : Variant} where
 -- ---- a fragment: its codes unpacked, run, and made samples
 
 module _ {version : ℕ} {variant : Variant} {fragment : List ℕ} {s : State} {codes depths : List ℕ} {start lane : Kept} {n : ℕ} (few : n ≤ frame_samples version)
-    (started : Started version variant fragment s codes start) (ran : Ran version variant codes (state_of variant start.point) n depths lane)
-    {samples : List ℤ} {r : State} (finished : Finished version fragment s (state_of lane.variant lane.point) depths samples r) where
-  same_depth : (i : ℕ) → i < n → get_or depths i 0 ≡ depth_at version variant codes (state_of variant start.point) i
-  same_depth i l = sym (get_or-take n depths i 0 l) ∙ rw ran.done (get_d_tabulate (depth_at version variant codes (state_of variant start.point)) n i 0 l)
+    (started : Started version variant fragment s codes start) (ran : Ran version variant codes (state_of variant start.table_state) n depths lane)
+    {samples : List ℤ} {r : State} (finished : Finished version fragment s (state_of lane.variant lane.table_state) depths samples r) where
+  same_depth : (i : ℕ) → i < n → get_or depths i 0 ≡ depth_at version variant codes (state_of variant start.table_state) i
+  same_depth i l = sym (get_or-take n depths i 0 l) ∙ rw ran.done (get_d_tabulate (depth_at version variant codes (state_of variant start.table_state)) n i 0 l)
 
   played_samples : take n samples ≡ (decoded_fragment version variant s fragment n).samples
   unfolding sample_at after
@@ -114,7 +114,7 @@ module _ {version : ℕ} {variant : Variant} {fragment : List ℕ} {s : State} {
       run_samples version variant fragment s n few started.state started.codes_are refl
       (rw (finished.samples_are, take_tabulate (λ i. gain (pos 32767 -ℤ pos (get_or depths i 0))) 64 n (omega (arith, frame_few (anew version))))
       (tabulate_ext _ _ n
-      (λ i l. ap gain (rw (same_depth i l) (depth_back _ (stepped_range version variant (after version variant codes (state_of variant start.point) i) (get_or codes i 0)).predictor)))))
+      (λ i l. ap gain (rw (same_depth i l) (depth_back _ (stepped_range version variant (after version variant codes (state_of variant start.table_state) i) (get_or codes i 0)).predictor)))))
 
   played_state : r ≡ (decoded_fragment version variant s fragment n).state
   played_state =

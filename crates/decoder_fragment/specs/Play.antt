@@ -21,19 +21,19 @@ pub record Ran (version : ℕ) (variant : Variant) (codes : List ℕ) (s : State
   pub long : length depths ≡ 64
   pub variant_is : lane.variant ≡ variant
   pub done : take i depths ≡ tabulate (depth_at version variant codes s) i
-  pub state : state_of variant lane.point ≡ after version variant codes s i
+  pub state : state_of variant lane.table_state ≡ after version variant codes s i
 
 -- the same of each of n lanes
 pub record AllRan (version : ℕ) (variant : Variant) (codes : List (List ℕ)) (starts : List Kept) (n i : ℕ) (depths : List (List ℕ)) (lanes : List Kept) : Type 0 where
   pub depths_long : length depths ≡ n
   pub lanes_long : length lanes ≡ n
-  pub each : (k : ℕ) → k < n → (d : Kept) → Ran version variant (get_or codes k []) (state_of variant (get_or starts k d).point) i (get_or depths k []) (get_or lanes k d)
+  pub each : (k : ℕ) → k < n → (d : Kept) → Ran version variant (get_or codes k []) (state_of variant (get_or starts k d).table_state) i (get_or depths k []) (get_or lanes k d)
 
 -- a fragment is unpacked, and its lane stands at the state before its first code
 pub record Started (version : ℕ) (variant : Variant) (fragment : List ℕ) (s : State) (codes : List ℕ) (lane : Kept) : Type 0 where
   pub codes_are : codes ≡ unpacked (bits variant) 64 (payload version fragment)
   pub variant_is : lane.variant ≡ variant
-  pub state : state_of variant lane.point ≡ start_state version s fragment
+  pub state : state_of variant lane.table_state ≡ start_state version s fragment
 
 -- all depths of a fragment are samples at its volume, and r is the state after it, where its last code leads to the state `end`
 pub record Finished (version : ℕ) (fragment : List ℕ) (s end : State) (depths : List ℕ) (samples : List ℤ) (r : State) : Type 0 where

@@ -103,7 +103,7 @@ fn finish(
     depths: &[u16; 64],
     samples: &mut [i16; 64],
 ) -> Reached
-    ensures { Finished coding.version fragment.now.bytes.now state.state (state_of lane.variant lane.point) depths.now samples.new result.state }
+    ensures { Finished coding.version fragment.now.bytes.now state.state (state_of lane.variant lane.table_state) depths.now samples.new result.state }
 {
     apply_gain(coding, depths, fragment.volume(), samples);
     fragment_plain::state_after(coding, state, lane.state())

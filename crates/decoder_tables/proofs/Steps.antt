@@ -22,7 +22,7 @@ use Rattle.sqv4_format.specs.declared.Variant.{Variant}
 use Rattle.sqv4_format.specs.declared.State.{State}
 use Rattle.adpcm.proofs.Bounds.{step_high, difference_small}
 use Rattle.decoder_tables.specs.Lookup.{Lookup, Held, difference_rule, kept, state_of, lowered, looked}
-use Rattle.decoder_tables.specs.declared.Point.{Point}
+use Rattle.decoder_tables.specs.declared.TableState.{TableState}
 
 -- ---- a depth after a difference
 
@@ -97,19 +97,19 @@ kept_back variant s r = rw (depth_back s.predictor r.predictor, mul-div_cancel s
 pub held : (variant : Variant) (s : State) → InRange s → Held variant (kept variant s)
 held variant s r = record { range = rw (kept_back variant s r) r; same = ap (kept variant) (sym (kept_back variant s r)) }
 
-module _ {variant : Variant} {s : Point} (h : Held variant s) where
+module _ {variant : Variant} {s : TableState} (h : Held variant s) where
   pub held_depth : s.depth ≤ 65535
   held_depth = rw (ap (λ p. p.depth) h.same) (depth_le _ h.range.predictor)
 
 module _ {version : ℕ} {variant : Variant} {differences nexts : List ℕ} (t : Lookup version variant differences nexts)
-    {s : Point} (h : Held variant s) (code : ℕ) (l : code < 2 ^ bits variant) where
+    {s : TableState} (h : Held variant s) (code : ℕ) (l : code < 2 ^ bits variant) where
   -- what a step needs
-  pub held_needs : (s.depth ≤ 65535) × (s.at + code < length differences) × (length nexts ≡ length differences) × (65535 ≤ get_or differences (s.at + code) 0)
+  pub held_needs : (s.depth ≤ 65535) × (s.row + code < length differences) × (length nexts ≡ length differences) × (65535 ≤ get_or differences (s.row + code) 0)
   held_needs =
-      let row = ap (λ p. p.at) h.same in
+      let row = ap (λ p. p.row) h.same in
       let n = step_needs t (state_of variant s) code h.range l in
       (held_depth h, rw row n.0, n.1, rw row n.2)
 
-  -- the point after it
+  -- the state after it
   pub held_step : looked differences nexts s code ≡ kept variant (stepped version variant (state_of variant s) code)
   held_step = ap (λ p. looked differences nexts p code) h.same ∙ looked_is t (state_of variant s) code h.range l

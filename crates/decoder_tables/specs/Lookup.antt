@@ -6,7 +6,7 @@ use Rattle.sqv4_format.specs.Step.{step_at, difference, adjustment}
 use Rattle.sqv4_format.specs.Decode.{InRange}
 use Rattle.sqv4_format.specs.declared.Variant.{Variant}
 use Rattle.sqv4_format.specs.declared.State.{State}
-use Rattle.decoder_tables.specs.declared.Point.{Point}
+use Rattle.decoder_tables.specs.declared.TableState.{TableState}
 
 -- a table with a row of w entries for each index 0..88: the entry of index i at place l of its row is rule i l
 pub record Rows (w : ℕ) (rule : ℕ → ℕ → ℕ) (table : List ℕ) : Type 0 where
@@ -27,14 +27,14 @@ pub record Lookup (version : ℕ) (variant : Variant) (differences nexts : List 
   pub next : Rows (2 ^ bits variant) (next_rule variant) nexts
 
 -- a state as the tables take it: how far the predictor lies below 32767, and where the row of the index begins; and back
-abbrev pub kept : Variant → State → Point
-kept variant s = record { depth = depth s.predictor; at = s.index * 2 ^ bits variant }
+abbrev pub kept : Variant → State → TableState
+kept variant s = record { depth = depth s.predictor; row = s.index * 2 ^ bits variant }
 
-unfoldable pub state_of : Variant → Point → State
-state_of variant s = record { predictor = pos 32767 -ℤ pos s.depth; index = s.at / 2 ^ bits variant }
+unfoldable pub state_of : Variant → TableState → State
+state_of variant s = record { predictor = pos 32767 -ℤ pos s.depth; index = s.row / 2 ^ bits variant }
 
 -- what the tables take is a state that a decoding reaches
-pub record Held (variant : Variant) (s : Point) : Type 0 where
+pub record Held (variant : Variant) (s : TableState) : Type 0 where
   pub range : InRange (state_of variant s)
   pub same : s ≡ kept variant (state_of variant s)
 
@@ -43,9 +43,9 @@ abbrev pub lowered : ℕ → ℕ → ℕ
 lowered d entry = 65535 - (entry - d - 65536)
 
 -- the state after a code, as the tables give it
-unfoldable pub looked : List ℕ → List ℕ → Point → ℕ → Point
+unfoldable pub looked : List ℕ → List ℕ → TableState → ℕ → TableState
 looked differences nexts s code =
     record {
-      depth = lowered s.depth (get_or differences (s.at + code) 0);
-      at = get_or nexts (s.at + code) 0;
+      depth = lowered s.depth (get_or differences (s.row + code) 0);
+      row = get_or nexts (s.row + code) 0;
     }

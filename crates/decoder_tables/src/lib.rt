@@ -56,16 +56,16 @@ impl Tables {
 
     // A state, as the tables take it.
     pub fn keep(self, state: Reached) -> Kept
-        ensures { (result.variant ≡ self.coding.variant) × (result.point ≡ kept self.coding.variant state.state)
-            × (state_of self.coding.variant result.point ≡ state.state) }
+        ensures { (result.variant ≡ self.coding.variant) × (result.table_state ≡ kept self.coding.variant state.state)
+            × (state_of self.coding.variant result.table_state ≡ state.state) }
     {
         let variant = self.coding.variant;
         let State { predictor, index } = state.state;
         let depth = signed::depth(predictor);
-        let at = index * row_size(variant);
+        let row = index * row_size(variant);
         Kept {
             variant,
-            point: Point { depth, at },
+            table_state: TableState { depth, row },
         }
     }
 
@@ -73,12 +73,12 @@ impl Tables {
     pub fn step(self, kept: Kept, code: u8) -> Kept
         requires { (kept.variant ≡ self.coding.variant) × (code < 2 ^ bits self.coding.variant) }
         ensures { (result.variant ≡ self.coding.variant)
-            × (state_of self.coding.variant result.point ≡ stepped self.coding.version self.coding.variant (state_of self.coding.variant kept.point) code) }
+            × (state_of self.coding.variant result.table_state ≡ stepped self.coding.version self.coding.variant (state_of self.coding.variant kept.table_state) code) }
     {
-        let point = step(kept.point, code, self.differences, self.nexts);
+        let table_state = step(kept.table_state, code, self.differences, self.nexts);
         Kept {
             variant: self.coding.variant,
-            point,
+            table_state,
         }
     }
 }
@@ -86,63 +86,63 @@ impl Tables {
 // Internal: the state after a code, on any two tables: it promises more than `Tables::step`. The next row is read from the table's rest
 // behind the code, so that it waits for the row alone.
 #[tactic(auto, using(crate::proofs::Steps::rest_at), unfolding(crate::specs::Lookup::looked))]
-pub fn step(s: Point, code: u8, differences: &[u32], nexts: &[u16]) -> Point
-    requires { (s.depth ≤ 65535) × (s.at + code < length differences.now) × (length nexts.now ≡ length differences.now)
-        × (65535 ≤ get_or differences.now (s.at + code) 0) }
+pub fn step(s: TableState, code: u8, differences: &[u32], nexts: &[u16]) -> TableState
+    requires { (s.depth ≤ 65535) × (s.row + code < length differences.now) × (length nexts.now ≡ length differences.now)
+        × (65535 ≤ get_or differences.now (s.row + code) 0) }
     ensures { (result ≡ looked differences.now nexts.now s code) × (result.depth ≤ 65535) }
 {
-    let from = s.at;
+    let from = s.row;
     let code = code as usize;
     let depth = move_depth(s.depth, differences[from + code]);
     let rest = &nexts[code..];
-    let at = rest[from] as usize;
-    Point { depth, at }
+    let row = rest[from] as usize;
+    TableState { depth, row }
 }
 
-// Internal: a state, as the tables gave it. It takes every depth up to 65535, and `Kept::state` only the points of states that a decoding
+// Internal: a state, as the tables gave it. It takes every depth up to 65535, and `Kept::state` only those of states that a decoding
 // reaches.
 #[tactic(auto, using(signed::proofs::Laws::back16, signed::proofs::Laws::back32), unfolding(crate::specs::Lookup::state_of))]
-pub fn state_of(variant: Variant, s: Point) -> State
+pub fn state_of(variant: Variant, s: TableState) -> State
     requires { s.depth ≤ 65535 }
     ensures { result ≡ state_of variant s }
 {
     let predictor = signed::at_depth(s.depth) as i32;
-    let index = s.at / row_size(variant);
+    let index = s.row / row_size(variant);
     State { predictor, index }
 }
 
 // How far a predictor lies below 32767, at most 65535, and where the row of an index begins. The bound stands in the contracts of the free
 // functions and in `Kept`, not here: `step` promises the same of any two tables.
 #[derive(Clone, Copy)]
-pub struct Point {
+pub struct TableState {
     pub depth: u32,
-    pub at: usize,
+    pub row: usize,
 }
 
 // A state that a decoding reaches, as the tables of its coding take it.
 #[derive(Clone, Copy)]
 pub struct Kept {
     pub variant: Variant,
-    pub point: Point,
-    ghost held: { Held variant point },
+    pub table_state: TableState,
+    ghost held: { Held variant table_state },
 }
 
 impl Kept {
     // How far the predictor lies below 32767.
     #[tactic(auto, using(crate::proofs::Steps::held_depth))]
     pub fn depth(self) -> u16
-        ensures { result ≡ depth (state_of self.variant self.point).predictor }
+        ensures { result ≡ depth (state_of self.variant self.table_state).predictor }
     {
-        self.point.depth as u16
+        self.table_state.depth as u16
     }
 
     // The state, as the tables gave it.
     #[tactic(auto, using(crate::proofs::Steps::held_depth))]
     pub fn state(self) -> Reached
-        ensures { result.state ≡ state_of self.variant self.point }
+        ensures { result.state ≡ state_of self.variant self.table_state }
     {
         Reached {
-            state: state_of(self.variant, self.point),
+            state: state_of(self.variant, self.table_state),
         }
     }
 }

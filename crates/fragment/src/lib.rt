@@ -55,7 +55,7 @@ fn decode(coding: Coding, state: State, fragment: &[u8], out: &mut [i16]) -> Res
 
 // What the decoder of one fragment gives: its answer, and the channel's state after the call.
 #[derive(Clone, Copy)]
-pub struct Returned<A> {
+pub struct WithState<A> {
     pub answer: A,
     pub state: State,
 }
@@ -69,17 +69,17 @@ pub fn decode_one(
     state: State,
     fragment: &[u8],
     out: &mut [i16],
-) -> Returned<Result<usize, Error>>
+) -> WithState<Result<usize, Error>>
     ensures { AsCalled version variant state fragment.now out.old
         result.answer result.state out.new }
 {
     let coding = Coding { version, variant };
     match decode(coding, state, fragment, out) {
-        Ok(next) => Returned {
+        Ok(next) => WithState {
             answer: Ok(out.len()),
             state: next,
         },
-        Err(error) => Returned {
+        Err(error) => WithState {
             answer: Err(error),
             state,
         },

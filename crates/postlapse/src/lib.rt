@@ -12,7 +12,7 @@ ghost use Rattle.wav_writer.specs.Writer.{write_call};
 ghost use Rattle.postlapse.specs.Answers.{answer_of, header_answer_of, wave_answer_of, with_state};
 ghost use Rattle.postlapse.specs.Promises.{encode_for_c, fragment_for_c, Fills, Decodes, Plays, PlaysAs, PlaysByValue};
 
-use fragment::Returned;
+use fragment::WithState;
 use outcome::{Error, ReturnedNumbers};
 use sqv4_format::{Header, State, Variant};
 use wav_format::Wave;
@@ -155,10 +155,10 @@ impl From<Result<Wave, Error>> for WaveAnswer {
     }
 }
 
-impl From<Returned<Answer>> for FragmentAnswer {
+impl From<WithState<Answer>> for FragmentAnswer {
     ghost from_gives = { λ given answer. answer ≡ with_state given.answer given.state };
 
-    fn from(given: Returned<Answer>) -> FragmentAnswer {
+    fn from(given: WithState<Answer>) -> FragmentAnswer {
         FragmentAnswer {
             refusal: given.answer.refusal,
             first: given.answer.first,
@@ -231,12 +231,12 @@ fn play(
     state: State,
     fragment: &[u8],
     out: &mut [i16],
-) -> Returned<Result<usize, Error>>
+) -> WithState<Result<usize, Error>>
     ensures { PlaysAs (fragment_for_c version byte state fragment.now (length out.old)) state out.old (answered result.answer) result.state out.new }
 {
     match Variant::try_from(byte) {
         Ok(variant) => fragment::decode_one(version, variant, state, fragment, out),
-        Err(error) => Returned {
+        Err(error) => WithState {
             answer: Err(error),
             state,
         },
@@ -256,7 +256,7 @@ pub fn postlapse_decode_fragment(
         (record { predictor = predictor; index = index }) out.old result out.new }
 {
     let played = play(version, variant, State { predictor, index }, fragment, out);
-    FragmentAnswer::from(Returned {
+    FragmentAnswer::from(WithState {
         answer: Answer::from(played.answer),
         state: played.state,
     })
@@ -288,13 +288,13 @@ pub fn decode_through_lent(
     state: State,
     fragment: &[u8],
     out: &mut [i16],
-) -> Returned<Answer>
+) -> WithState<Answer>
     ensures { Plays (fragment_for_c version variant state fragment.now (length out.old))
         state out.old result.answer result.state out.new }
 {
     let mut state = state;
     let answer = postlapse_decode_fragment_lent(version, variant, &mut state, fragment, out);
-    Returned { answer, state }
+    WithState { answer, state }
 }
 
 // What a WAV file says, and where its sample bytes lie.

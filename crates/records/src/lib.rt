@@ -12,7 +12,7 @@ mod kind;
 mod list;
 mod question;
 
-use commands::ROOM;
+use commands::OUTPUT_SIZE;
 pub use kind::Kind;
 pub use list::replay;
 pub use question::{Fragment, Question};
@@ -27,7 +27,7 @@ pub fn front<T>(s: &[T], n: usize) -> &[T]
 }
 
 // Internal: puts what a program prints for an input into an answer.
-pub fn put_printed<F: Fn(&[u8], &mut [u8; ROOM]) -> usize>(
+pub fn put_printed<F: Fn(&[u8], &mut [u8; OUTPUT_SIZE]) -> usize>(
     answer: &mut Printer,
     input: &[u8],
     command: F,
@@ -36,9 +36,9 @@ pub fn put_printed<F: Fn(&[u8], &mut [u8; ROOM]) -> usize>(
     requires prints { (input : _) (out : _) (count : _) (after : _) → F.post command input out count after → IsPrefixLen count after.now }
     ensures { (out : _) × (count : _) × (after : _) × F.post command input.entry out count after × Printed answer.old (take count after.now) answer.new }
 {
-    let mut out = [0u8; ROOM];
+    let mut out = [0u8; OUTPUT_SIZE];
     let count = command(input, &mut out);
-    answer.word(&out[..count]);
+    answer.put(&out[..count]);
 }
 
 // Puts samples into an answer, two bytes each.
@@ -46,7 +46,7 @@ pub fn put_samples(answer: &mut Printer, samples: &[i16])
     ensures { Printed answer.old (sample_bytes samples.now) answer.new }
 {
     for sample in samples {
-        answer.word(&signed::sample_bytes(*sample));
+        answer.put(&signed::sample_bytes(*sample));
     }
 }
 
@@ -54,7 +54,7 @@ pub fn put_samples(answer: &mut Printer, samples: &[i16])
 pub fn put_state(answer: &mut Printer, state: State)
     ensures { Printed answer.old (state_bytes state) answer.new }
 {
-    answer.word(&[u8::from(state.predictor.is_negative())]);
-    answer.word(&u64::from(state.predictor.unsigned_abs()).to_le_bytes());
-    answer.word(&state.index.to_le_bytes());
+    answer.put(&[u8::from(state.predictor.is_negative())]);
+    answer.put(&u64::from(state.predictor.unsigned_abs()).to_le_bytes());
+    answer.put(&state.index.to_le_bytes());
 }

@@ -1,7 +1,7 @@
 ghost use Rattle.std.specs.Prelude.{◌≡◌, true, take, Some};
 
 use crate::{Question, front};
-use commands::{READ, ROOM};
+use commands::{OUTPUT_SIZE, READ_AT_MOST};
 use std::fs::File;
 use std::io;
 use std::io::Read;
@@ -9,7 +9,7 @@ use text::Printer;
 
 // The most bytes of a question. It and its answer lie in arrays and not in ArrayVecs: of each only the front is stored, and the zeros behind it
 // are the array's own.
-const QUESTION: usize = READ + 1;
+const QUESTION: usize = READ_AT_MOST + 1;
 
 // The bytes of a record's four sizes.
 const SIZES: usize = 16;
@@ -54,7 +54,7 @@ fn is_answered<F: Fn(Question, &mut Printer) -> Option<()>>(
     ensures { result ≡ true → (page : _) × (after : _) × F.post ask.now (record { rest = question.entry }) page (Some tt) after
         × (take after.now.at after.now.out.now ≡ answer.now) }
 {
-    let mut out = [0u8; ROOM];
+    let mut out = [0u8; OUTPUT_SIZE];
     let mut page = Printer::new(&mut out);
     ask(Question { rest: question }, &mut page).is_some() && page.text() == answer
 }
@@ -76,11 +76,11 @@ fn try_record<R: Read, F: Fn(Question, &mut Printer) -> Option<()>>(
     }
     let mut sizes = Question { rest: &sizes };
     let mut question = [0u8; QUESTION];
-    let mut answer = [0u8; ROOM];
-    let question_size = sizes.word() as usize;
-    read_front(list, &mut question, sizes.word())?;
-    let answer_size = sizes.word() as usize;
-    read_front(list, &mut answer, sizes.word())?;
+    let mut answer = [0u8; OUTPUT_SIZE];
+    let question_size = sizes.get_u32() as usize;
+    read_front(list, &mut question, sizes.get_u32())?;
+    let answer_size = sizes.get_u32() as usize;
+    read_front(list, &mut answer, sizes.get_u32())?;
     Ok(Some(is_answered(
         front(&question, question_size),
         front(&answer, answer_size),

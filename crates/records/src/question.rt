@@ -40,15 +40,15 @@ impl<'a> Question<'a> {
     }
 
     // The next byte, 0 where none is left.
-    pub fn byte(&mut self) -> u8
+    pub fn get_u8(&mut self) -> u8
         ensures value { result ≡ slice_index self.old.rest.now 0 }
         ensures rest { self.new.rest.now ≡ drop 1 self.old.rest.now }
     {
         self.chunk::<1>()[0]
     }
 
-    // The next number of four bytes, 0 where fewer are left. This and `long` have two types of result, and a line each over `chunk`.
-    pub fn word(&mut self) -> u32
+    // The next number of four bytes, 0 where fewer are left. This and `get_u64` have two types of result, and a line each over `chunk`.
+    pub fn get_u32(&mut self) -> u32
         ensures value { 4 ≤ length self.old.rest.now → result ≡ from_le_bytes w32 (take 4 self.old.rest.now) }
         ensures none { length self.old.rest.now < 4 → result ≡ 0 }
         ensures rest { self.new.rest.now ≡ drop 4 self.old.rest.now }
@@ -57,7 +57,7 @@ impl<'a> Question<'a> {
     }
 
     // The next number of eight bytes, 0 where fewer are left.
-    pub fn long(&mut self) -> u64
+    pub fn get_u64(&mut self) -> u64
         ensures value { 8 ≤ length self.old.rest.now → result ≡ from_le_bytes w64 (take 8 self.old.rest.now) }
         ensures none { length self.old.rest.now < 8 → result ≡ 0 }
         ensures rest { self.new.rest.now ≡ drop 8 self.old.rest.now }
@@ -72,15 +72,15 @@ impl<'a> Question<'a> {
         ensures index { 17 ≤ length self.old.rest.now → result.index ≡ from_le_bytes w64 (take 8 (drop 9 self.old.rest.now)) }
         ensures rest { self.new.rest.now ≡ drop 17 self.old.rest.now }
     {
-        let negative = self.byte() == 1;
-        let predictor = match i32::try_from(self.long()) {
+        let negative = self.get_u8() == 1;
+        let predictor = match i32::try_from(self.get_u64()) {
             Ok(magnitude) if negative => -magnitude,
             Ok(magnitude) => magnitude,
             Err(_) => i32::MIN,
         };
         State {
             predictor,
-            index: self.long() as usize,
+            index: self.get_u64() as usize,
         }
     }
 
@@ -94,9 +94,9 @@ impl<'a> Question<'a> {
         ensures index { 20 ≤ length self.entry.rest.now → result.state.index ≡ from_le_bytes w64 (take 8 (drop 12 self.entry.rest.now)) }
         ensures bytes { result.bytes.now ≡ drop 20 self.entry.rest.now }
     {
-        let version = self.byte();
-        let variant = self.byte();
-        let count = self.byte();
+        let version = self.get_u8();
+        let variant = self.get_u8();
+        let count = self.get_u8();
         let state = self.state();
         Fragment {
             version,

@@ -34,9 +34,9 @@ fn filled_count(a: Answer) -> usize {
 
 // Puts the numbers of an answer, in eight bytes each. It says how many places it has filled.
 fn put_numbers(answer: &mut Printer, a: Answer) -> usize {
-    answer.word(&a.refusal.to_le_bytes());
-    answer.word(&a.first.to_le_bytes());
-    answer.word(&a.second.to_le_bytes());
+    answer.put(&a.refusal.to_le_bytes());
+    answer.put(&a.first.to_le_bytes());
+    answer.put(&a.second.to_le_bytes());
     filled_count(a)
 }
 
@@ -51,9 +51,9 @@ fn put_header(answer: &mut Printer, a: HeaderAnswer) -> usize {
             second: a.second,
         },
     );
-    answer.word(&[a.version, a.variant, a.channels]);
-    answer.word(&u64::from(a.rate).to_le_bytes());
-    answer.word(&u64::from(a.samples).to_le_bytes());
+    answer.put(&[a.version, a.variant, a.channels]);
+    answer.put(&u64::from(a.rate).to_le_bytes());
+    answer.put(&u64::from(a.samples).to_le_bytes());
     a.samples as usize * a.channels as usize
 }
 
@@ -83,7 +83,7 @@ fn ask_bytes<F: FnOnce(&[i16], &mut [u8]) -> Answer>(
     let mut places = [BYTE; BYTES];
     let a = call(load(samples, &mut pcm), places.get_mut(..room)?);
     let count = put_numbers(answer, a);
-    answer.word(filled(&places, count, BYTE)?);
+    answer.put(filled(&places, count, BYTE)?);
     Some(())
 }
 
@@ -103,11 +103,11 @@ fn ask_samples<F: FnOnce(&mut Printer, &mut [i16]) -> usize>(
 
 // Kind 1: variant, gain, channels, rate, room, samples.
 fn ask_encoder(mut question: Question, answer: &mut Printer) -> Option<()> {
-    let variant = question.byte();
-    let gain = question.byte();
-    let channels = question.byte();
-    let rate = question.word();
-    let room = question.word() as usize;
+    let variant = question.get_u8();
+    let gain = question.get_u8();
+    let channels = question.get_u8();
+    let rate = question.get_u32();
+    let room = question.get_u32() as usize;
     ask_bytes(answer, question.rest, room, |pcm: &[i16], out: &mut [u8]| {
         postlapse::postlapse_encode(pcm, channels, rate, variant, gain, out)
     })
@@ -115,9 +115,9 @@ fn ask_encoder(mut question: Question, answer: &mut Printer) -> Option<()> {
 
 // Kind 8: channels, rate, room, samples.
 fn ask_wave_writer(mut question: Question, answer: &mut Printer) -> Option<()> {
-    let channels = question.byte();
-    let rate = question.word();
-    let room = question.word() as usize;
+    let channels = question.get_u8();
+    let rate = question.get_u32();
+    let room = question.get_u32() as usize;
     ask_bytes(answer, question.rest, room, |pcm: &[i16], out: &mut [u8]| {
         postlapse::postlapse_write_wave(channels, rate, pcm, out)
     })
@@ -125,7 +125,7 @@ fn ask_wave_writer(mut question: Question, answer: &mut Printer) -> Option<()> {
 
 // Kind 3: room, a stream.
 fn ask_decoder(mut question: Question, answer: &mut Printer) -> Option<()> {
-    let room = question.word() as usize;
+    let room = question.get_u32() as usize;
     let stream = question.rest;
     ask_samples(answer, room, |answer: &mut Printer, pcm: &mut [i16]| {
         put_header(answer, postlapse::postlapse_decode(stream, pcm))
@@ -134,7 +134,7 @@ fn ask_decoder(mut question: Question, answer: &mut Printer) -> Option<()> {
 
 // Kind 10: room, bytes.
 fn ask_sample_reader(mut question: Question, answer: &mut Printer) -> Option<()> {
-    let room = question.word() as usize;
+    let room = question.get_u32() as usize;
     let bytes = question.rest;
     ask_samples(answer, room, |answer: &mut Printer, pcm: &mut [i16]| {
         put_numbers(answer, postlapse::postlapse_load_samples(bytes, pcm))
@@ -198,21 +198,21 @@ fn ask_fragment_decoder(question: Question, answer: &mut Printer) -> Option<()> 
 // Kinds 4 and 9: what a WAV file says, and where its sample bytes lie, and these. Where they are not the part of the file that start and
 // size name, there is no answer.
 fn put_read(answer: &mut Printer, file: &[u8], a: WaveAnswer, samples: &[u8]) -> Option<()> {
-    answer.word(&a.refusal.to_le_bytes());
-    answer.word(&a.channels.to_le_bytes());
-    answer.word(&u64::from(a.rate).to_le_bytes());
-    answer.word(&a.start.to_le_bytes());
-    answer.word(&a.size.to_le_bytes());
+    answer.put(&a.refusal.to_le_bytes());
+    answer.put(&a.channels.to_le_bytes());
+    answer.put(&u64::from(a.rate).to_le_bytes());
+    answer.put(&a.start.to_le_bytes());
+    answer.put(&a.size.to_le_bytes());
     if samples != file.get(a.start..)?.get(..a.size)? {
         return None;
     }
-    answer.word(samples);
+    answer.put(samples);
     Some(())
 }
 
 // Asks a question, and puts its answer. None where it has none, so that `?` leaves it.
 fn ask(mut question: Question, answer: &mut Printer) -> Option<()> {
-    let kind = Kind::try_from(question.byte()).ok()?;
+    let kind = Kind::try_from(question.get_u8()).ok()?;
     let rest = question.rest;
     match kind {
         Kind::Encoder => ask_encoder(question, answer),

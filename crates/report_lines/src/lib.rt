@@ -37,7 +37,7 @@ pub fn refusal_line(page: &mut Printer, error: Error)
 {
     page.field(b"refused ", error.number() as u64);
     values(page, error.values());
-    page.word(b"\n");
+    page.put(b"\n");
 }
 
 // A variant's name. It is no `Display`: of what a formatter writes, std's `fmt::Write` says too little to prove the whole line.
@@ -59,12 +59,12 @@ pub fn header_line(page: &mut Printer, h: Header)
     ensures short { length (header_line h) ≤ 128 }
 {
     page.field(b"version ", h.version as u64);
-    page.word(b" variant ");
-    page.word(name(h.variant));
+    page.put(b" variant ");
+    page.put(name(h.variant));
     page.field(b" channels ", h.channels as u64);
     page.field(b" rate ", h.rate as u64);
     page.field(b" samples ", h.samples as u64);
-    page.word(b"\n");
+    page.put(b"\n");
 }
 
 // Internal: the index field of a fragment.
@@ -75,7 +75,7 @@ fn index_field(page: &mut Printer, coding: Coding, fragment: &Coded)
 {
     match fragment.index(coding) {
         Some(index) => page.number(index as u64),
-        None => page.word(b"-"),
+        None => page.put(b"-"),
     }
 }
 
@@ -92,7 +92,7 @@ pub fn fragment_line(page: &mut Printer, stream: &Stream, p: usize)
     page.field(b" ", place.channel() as u64);
     page.field(b" ", place.samples() as u64);
     page.field(b" ", fragment.volume() as u64);
-    page.word(b" ");
+    page.put(b" ");
     index_field(page, stream.header.coding(), &fragment);
-    page.word(b"\n");
+    page.put(b"\n");
 }

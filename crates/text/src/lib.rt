@@ -40,7 +40,7 @@ impl<'a> Printer<'a> {
     }
 
     // A piece of text.
-    pub fn word(&mut self, piece: &[u8])
+    pub fn put(&mut self, piece: &[u8])
         ensures { Printed self.old piece.now self.new }
     {
         let size = piece.len().min(self.out.len() - self.at);
@@ -55,14 +55,14 @@ impl<'a> Printer<'a> {
         ensures { Printed self.old (decimal n) self.new }
     {
         let mut buffer = Buffer::new();
-        self.word(buffer.format(n).as_bytes());
+        self.put(buffer.format(n).as_bytes());
     }
 
-    // A word and a decimal number.
-    pub fn field(&mut self, word: &[u8], n: u64)
-        ensures { Printed self.old (word.now ++ decimal n) self.new }
+    // A label and a decimal number.
+    pub fn field(&mut self, label: &[u8], n: u64)
+        ensures { Printed self.old (label.now ++ decimal n) self.new }
     {
-        self.word(word);
+        self.put(label);
         self.number(n);
     }
 }

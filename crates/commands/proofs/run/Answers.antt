@@ -8,7 +8,7 @@ use Rattle.std.specs.declared.option.Option.{Option}
 use Rattle.std.specs.declared.option.Option.TheVariants.{None, Some}
 use Rattle.std.specs.Io.KnownBytes.{Appends}
 use Rattle.std.proofs.lemmas.Result.{on_ok_weaker}
-use Rattle.commands.specs.declared.TheConstants.{READ}
+use Rattle.commands.specs.declared.TheConstants.{READ_AT_MOST}
 use Rattle.commands.proofs.run.Goals as goal
 
 pub slice_bounds-out-end : goal.slice_bounds-out-end
@@ -25,5 +25,5 @@ front n (Some all) bytes p = p
 
 pub returns : goal.returns
 returns g c =
-    let read = front READ (g.R.Read.remaining c.args.source) c.copy.new.writer.items (rw (c.new-input.ensures, c.take.ensures.limit, c.take.ensures.inner) at c.in_ok-copy.ensures.bytes) in
+    let read = front READ_AT_MOST (g.R.Read.remaining c.args.source) c.copy.new.writer.items (rw (c.new-input.ensures, c.take.ensures.limit, c.take.ensures.inner) at c.in_ok-copy.ensures.bytes) in
     on_ok_weaker c.write_all.result (λ written. (_, _, _, _, c.command-count.ensures, c.as_slice.ensures.fits, rw c.as_slice.ensures.value read, written)) c.write_all.ensures.bytes

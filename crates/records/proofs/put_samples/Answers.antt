@@ -21,7 +21,7 @@ pub loop-sample-preserved : goal.loop-sample-preserved
 unfolding joined
 loop-sample-preserved c =
     let f : SFits w16 (get_or c.args.samples.now c.loop-sample.sample-index (pos 0)) = search rules in
-    rw add-one (then_printed c.loop-sample.invariant (rw (c.sample_bytes.ensures, to_z-of_z f) at c.word.ensures))
+    rw add-one (then_printed c.loop-sample.invariant (rw (c.sample_bytes.ensures, to_z-of_z f) at c.put.ensures))
 
 pub returns : goal.returns
 unfolding sample_bytes

@@ -17,6 +17,6 @@ pub returns : goal.returns
 unfolding state_bytes
 returns c =
     let f : SFits w32 c.args.state.predictor = search rules in
-    let sign = rw (c.from.ensures, c.is_negative.ensures, to_z-of_z f, sign_byte) at c.word.ensures in
-    let magnitude = rw (c.to_le_bytes.ensures, c.from-2.ensures, c.unsigned_abs.ensures.value, to_z-of_z f) at c.word-2.ensures in
-    then_printed (then_printed sign magnitude) (rw c.to_le_bytes-2.ensures at c.word-3.ensures)
+    let sign = rw (c.from.ensures, c.is_negative.ensures, to_z-of_z f, sign_byte) at c.put.ensures in
+    let magnitude = rw (c.to_le_bytes.ensures, c.from-2.ensures, c.unsigned_abs.ensures.value, to_z-of_z f) at c.put-2.ensures in
+    then_printed (then_printed sign magnitude) (rw c.to_le_bytes-2.ensures at c.put-3.ensures)

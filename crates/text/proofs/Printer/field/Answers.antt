@@ -3,4 +3,4 @@ use Rattle.text.proofs.Laws.{then_printed}
 use Rattle.text.proofs.Printer.field.Goals as goal
 
 pub returns : goal.returns
-returns c = then_printed c.word.ensures c.number.ensures
+returns c = then_printed c.put.ensures c.number.ensures

@@ -13,7 +13,7 @@ use borrow.Author.Tests.{le-leb, lt-leb, eq-eqb, ne_eqb}
 use borrow.Author.Rules.{rules}
 use Rattle.records.specs.Bytes.{predictor_of}
 use Rattle.records.proofs.question.Question.state.Goals as goal
-use Rattle.records.proofs.question.Question.state.Goals.{in-Ok, in-Ok-2, in-Err, After-long-2}
+use Rattle.records.proofs.question.Question.state.Goals.{in-Ok, in-Ok-2, in-Err, After-get_u64-2}
 
 large : (m : ℕ) → (SFits w32 (pos m) → ⊥) → 2147483648 ≤ m
 large m h = go (dec_lt m 2147483648)
@@ -39,24 +39,24 @@ unfolding predictor_of
 plus s m h e = rw (lt-leb 2147483648 m h, ne_eqb s 1 e) refl
 
 -- what is left before the index
-behind : (c : After-long-2) → c.long.new.self.rest.now ≡ drop 9 c.args.self.now.rest.now
-behind c = c.long.ensures.rest ∙ rw c.byte-negative.ensures.rest (drop-drop 8 1 c.args.self.now.rest.now)
+behind : (c : After-get_u64-2) → c.get_u64.new.self.rest.now ≡ drop 9 c.args.self.now.rest.now
+behind c = c.get_u64.ensures.rest ∙ rw c.get_u8-negative.ensures.rest (drop-drop 8 1 c.args.self.now.rest.now)
 
 pub returns-clause-predictor : goal.returns-clause-predictor
 unfolding predictor_of
 returns-clause-predictor c = λ long.
-    let m = rw c.byte-negative.ensures.rest at (c.long.ensures.value (rw (c.byte-negative.ensures.rest, length-drop) (omega arith))) in
-    rw (← m, ← c.byte-negative.ensures.value)
+    let m = rw c.get_u8-negative.ensures.rest at (c.get_u64.ensures.value (rw (c.get_u8-negative.ensures.rest, length-drop) (omega arith))) in
+    rw (← m, ← c.get_u8-negative.ensures.value)
     (elim c.match-try_from.branch [
       | in-Ok w ↦
           (rw (w.in-Ok.ensures.1, to_z-of_z w.in-Ok.ensures.0) at w.predictor-is) ∙ turned _ w.in-Ok.ensures.0.sfits
-          ∙ minus _ c.long.result w.in-Ok.ensures.0.sfits w.if-negative.true
-      | in-Ok-2 w ↦ (rw (w.in-Ok.ensures.1, to_z-of_z w.in-Ok.ensures.0) at w.predictor-is) ∙ plus _ c.long.result w.in-Ok.ensures.0.sfits w.if-negative.false
-      | in-Err w ↦ w.predictor-is ∙ least _ c.long.result (large _ w.in-Err.ensures)
+          ∙ minus _ c.get_u64.result w.in-Ok.ensures.0.sfits w.if-negative.true
+      | in-Ok-2 w ↦ (rw (w.in-Ok.ensures.1, to_z-of_z w.in-Ok.ensures.0) at w.predictor-is) ∙ plus _ c.get_u64.result w.in-Ok.ensures.0.sfits w.if-negative.false
+      | in-Err w ↦ w.predictor-is ∙ least _ c.get_u64.result (large _ w.in-Err.ensures)
     ])
 
 pub returns-clause-index : goal.returns-clause-index
-returns-clause-index c = λ long. rw (behind c) at (c.long-2.ensures.value (rw (behind c, length-drop) (omega arith)))
+returns-clause-index c = λ long. rw (behind c) at (c.get_u64-2.ensures.value (rw (behind c, length-drop) (omega arith)))
 
 pub returns-clause-rest : goal.returns-clause-rest
-returns-clause-rest c = c.long-2.ensures.rest ∙ rw (behind c) (drop-drop 8 9 c.args.self.now.rest.now)
+returns-clause-rest c = c.get_u64-2.ensures.rest ∙ rw (behind c) (drop-drop 8 9 c.args.self.now.rest.now)

@@ -1,8 +1,8 @@
--- `text::Printer::word` meets its contract. Assumes nothing.
+-- `text::Printer::put` meets its contract. Assumes nothing.
 use mathlib.Core.Path.{refl}
 use native.Mathlib.Omega.{arith}
 use Rattle.text.proofs.Laws.{copied}
-use Rattle.text.proofs.Printer.word.Goals as goal
+use Rattle.text.proofs.Printer.put.Goals as goal
 
 pub returns : goal.returns
 returns c =
