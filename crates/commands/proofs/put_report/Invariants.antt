@@ -1,4 +1,5 @@
--- `commands::put_report` meets its contract. Assumes nothing.
+-- `commands::put_report` meets its contract. The loop's invariant: the lines of the first p fragments are printed, of at most 128 bytes each.
+-- Assumes nothing.
 use Prim.Native.Nat.{◌*◌, ◌≤◌}
 use lib.ListN.{length}
 use Rattle.lists.specs.Lists.{joined}

@@ -1,4 +1,4 @@
--- `decoder_fragment::apply_gain` meets its contract. Assumes nothing.
+-- `decoder_fragment::apply_gain` meets its contract. The loop's invariant: the first i places hold samples. Assumes nothing.
 use lib.ListN.{get_or}
 use lib.IntN.{pos, ◌-ℤ◌}
 use Rattle.sqv4_format.specs.Gain.{output_gain}

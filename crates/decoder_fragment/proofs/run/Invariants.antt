@@ -1,4 +1,4 @@
--- `decoder_fragment::run` meets its contract. Assumes nothing.
+-- `decoder_fragment::run` meets its contract. The invariants: every lane has run i codes; inside, the first k have run one more. Assumes nothing.
 use Rattle.decoder_fragment.specs.Play.{AllRan}
 use Rattle.decoder_fragment.proofs.Running.{Turning}
 use Rattle.decoder_fragment.proofs.run.Given as goal

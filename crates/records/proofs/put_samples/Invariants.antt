@@ -1,4 +1,4 @@
--- `records::put_samples` meets its contract. Assumes nothing.
+-- `records::put_samples` meets its contract. The loop's invariant: the samples so far are printed. Assumes nothing.
 use lib.IntN.{pos}
 use lib.ListN.{get_or}
 use Rattle.lists.specs.Lists.{joined}

@@ -1,4 +1,5 @@
--- `decoder_fragment::Player::play` meets its contract. Assumes nothing.
+-- `decoder_fragment::Player::play` meets its contract. The invariants: the first k fragments are unpacked, and their lanes stand at their
+-- starts; and then the first k are played. Assumes nothing.
 use Prim.Native.Nat.{◌+◌, ◌/◌}
 use lib.ListN.{get_or}
 use Rattle.sqv4_format.specs.Layout.{count, fragment_at_place}
