@@ -39,7 +39,7 @@ fn put_refusal(error: Error, out: &mut [u8; OUTPUT_SIZE]) -> usize
     page.count()
 }
 
-// Internal: the report on a stream, at the front of the output. That the input has at most MOST_INPUT bytes is asked here and in the two functions
+// The report on a stream, at the front of the output. That the input has at most MOST_INPUT bytes is asked here and in the two functions
 // below: what each takes of it is of another type.
 fn put_report(stream: &Stream, out: &mut [u8; OUTPUT_SIZE]) -> usize
     requires { length stream.now.file.now ≤ 65536 }

@@ -17,8 +17,8 @@ use decoder_tables::{Kept, Tables};
 use layout::Stream;
 use sqv4_format::{Coded, Coding, Reached, Variant};
 
-// Internal: codes of BITS bits, CODES of them in BYTES bytes. The loop's end is no constant, so that sixteen bytes of codes of 4 bits
-// are unpacked at a time.
+// Codes of BITS bits, CODES of them in BYTES bytes. The loop's end is no constant, so that sixteen bytes of codes of 4 bits are unpacked
+// at a time.
 fn unpack_groups<const BITS: usize, const BYTES: usize, const CODES: usize>(
     payload: &[u8],
     codes: &mut [u8; 64],
@@ -35,8 +35,8 @@ fn unpack_groups<const BITS: usize, const BYTES: usize, const CODES: usize>(
     }
 }
 
-// Internal: the sixty-four codes of a payload. `digits::unpack_codes` gives the same codes, at any width and a byte at a time; this one
-// has the widths as constants, for whole streams, and of H it unpacks sixteen bytes at a time. By the plain forms of this and of `run` single
+// The sixty-four codes of a payload. `digits::unpack_codes` gives the same codes, at any width and a byte at a time; this one has the
+// widths as constants, for whole streams, and of H it unpacks sixteen bytes at a time. By the plain forms of this and of `run` single
 // fragments are decoded at 1.6 times the Rust's speed (docs/SPEED.md), and the bar of whole streams is 4.
 fn unpack(variant: Variant, payload: &[u8], codes: &mut [u8; 64])
     requires { length payload.now ≡ payload_bytes variant }
@@ -49,9 +49,9 @@ fn unpack(variant: Variant, payload: &[u8], codes: &mut [u8; 64])
     }
 }
 
-// Internal: the depths after each of the first n codes of each lane, and the states after them. `fragment_plain::decode_codes` gives the
-// same states by arithmetic: it is the plain form, which stays for the decoder of single fragments. Sixty-four places, of which n are used:
-// the loop of the gain has a constant end.
+// The depths after each of the first n codes of each lane, and the states after them. `fragment_plain::decode_codes` gives the same states
+// by arithmetic: it is the plain form, which stays for the decoder of single fragments. Sixty-four places, of which n are used: the loop
+// of the gain has a constant end.
 fn run<const N: usize>(
     tables: Tables,
     lanes: &mut [Kept; N],
@@ -84,7 +84,7 @@ fn apply_gain(coding: Coding, depths: &[u16; 64], volume: u8, samples: &mut [i16
     }
 }
 
-// Internal: a fragment is unpacked, and its lane stands at the state before its first code.
+// A fragment is unpacked, and its lane stands at the state before its first code.
 fn start(tables: Tables, fragment: &Coded, state: Reached, codes: &mut [u8; 64]) -> Kept
     requires { length fragment.now.bytes.now ≡ fragment_size tables.coding.version tables.coding.variant }
     ensures { Started tables.coding.version tables.coding.variant fragment.now.bytes.now state.state codes.new result }
@@ -129,8 +129,8 @@ impl<'a> Player<'a> {
         }
     }
 
-    // Internal: the fragments from place `p` on, one for each state: as many samples of each as the first has, at the front, and the
-    // states after them.
+    // The fragments from place `p` on, one for each state: as many samples of each as the first has, at the front, and the states after
+    // them.
     pub fn play<const N: usize>(
         self,
         p: usize,

@@ -26,7 +26,7 @@ pub struct Tables {
 }
 
 impl Tables {
-    // Internal: a coding with its tables.
+    // A coding with its tables.
     fn new(coding: Coding, differences: &'static [u32], nexts: &'static [u16]) -> Tables
         requires { Lookup coding.version coding.variant differences.now nexts.now }
         ensures { result.coding ≡ coding }
@@ -69,7 +69,7 @@ impl Tables {
         }
     }
 
-    // Internal: the state after a code.
+    // The state after a code.
     pub fn step(self, kept: Kept, code: u8) -> Kept
         requires { (kept.variant ≡ self.coding.variant) × (code < 2 ^ bits self.coding.variant) }
         ensures { (result.variant ≡ self.coding.variant)
@@ -83,8 +83,8 @@ impl Tables {
     }
 }
 
-// Internal: the state after a code, on any two tables: it promises more than `Tables::step`. The next row is read from the table's rest
-// behind the code, so that it waits for the row alone.
+// The state after a code, on any two tables: it promises more than `Tables::step`. The next row is read from the table's rest behind the
+// code, so that it waits for the row alone.
 #[tactic(auto, using(crate::proofs::Steps::rest_at), unfolding(crate::specs::Lookup::looked))]
 pub fn step(s: TableState, code: u8, differences: &[u32], nexts: &[u16]) -> TableState
     requires { (s.depth ≤ 65535) × (s.row + code < length differences.now) × (length nexts.now ≡ length differences.now)
@@ -99,8 +99,7 @@ pub fn step(s: TableState, code: u8, differences: &[u32], nexts: &[u16]) -> Tabl
     TableState { depth, row }
 }
 
-// Internal: a state, as the tables gave it. It takes every depth up to 65535, and `Kept::state` only those of states that a decoding
-// reaches.
+// A state, as the tables gave it. It takes every depth up to 65535, and `Kept::state` only those of states that a decoding reaches.
 #[tactic(auto, using(signed::proofs::Laws::back16, signed::proofs::Laws::back32), unfolding(crate::specs::Lookup::state_of))]
 pub fn state_of(variant: Variant, s: TableState) -> State
     requires { s.depth ≤ 65535 }
@@ -154,7 +153,7 @@ fn row_size(variant: Variant) -> usize
     1 << variant.bits()
 }
 
-// Internal: a depth after a difference as a table holds it. Each limit is kept by a difference cut at 0, so that no jump is taken.
+// A depth after a difference as a table holds it. Each limit is kept by a difference cut at 0, so that no jump is taken.
 fn move_depth(depth: u32, entry: u32) -> u32
     requires { (depth ≤ 65535) × (65535 ≤ entry) }
     ensures { (result ≡ lowered depth entry) × (result ≤ 65535) }

@@ -27,7 +27,7 @@ pub fn state_after(coding: Coding, state: Reached, end: Reached) -> Reached
     if coding.starts_anew() { state } else { end }
 }
 
-// Internal: decodes a code for each place of `out`, and returns the state after the last.
+// Decodes a code for each place of `out`, and returns the state after the last.
 fn decode_codes(
     coding: Coding,
     start: Reached,
@@ -47,7 +47,7 @@ fn decode_codes(
     state
 }
 
-// Internal: as many samples of a fragment as `out` has places, and the state after them.
+// As many samples of a fragment as `out` has places, and the state after them.
 pub fn decode_fragment(coding: Coding, state: Reached, fragment: &Coded, out: &mut [i16]) -> Reached
     requires { (length fragment.now.bytes.now ≡ fragment_size coding.version coding.variant) × (length out.old ≤ frame_samples coding.version) }
     ensures { (result.state ≡ (decoded_fragment coding.version coding.variant state.state fragment.now.bytes.now (length out.old)).state)

@@ -11,7 +11,7 @@ use layout::{Place, Stream};
 use outcome::Error;
 use sqv4_format::{Coded, Header, State, Variant};
 
-// Internal: whether the first four bytes are "SQV4".
+// Whether the first four bytes are "SQV4".
 #[tactic(auto, using(lists::proofs::Letters::letters_equal), unfolding(sqv4_format::specs::Inspect::same_letters))]
 fn same_letters(file: &[u8]) -> bool
     requires { 4 ≤ length file.now }
@@ -20,7 +20,7 @@ fn same_letters(file: &[u8]) -> bool
     file.starts_with(b"SQV4")
 }
 
-// Internal: what the first 16 bytes state, where the variant byte names this variant. By the definition's name: it takes two things.
+// What the first 16 bytes state, where the variant byte names this variant. By the definition's name: it takes two things.
 #[tactic(auto, unfolding(sqv4_format::specs::Layout::header_of))]
 fn header_of(file: &[u8], variant: Variant) -> Header
     requires { 16 ≤ length file.now }
@@ -35,7 +35,7 @@ fn header_of(file: &[u8], variant: Variant) -> Header
     }
 }
 
-// Internal: the checks 1, 9, 2, 10, in this order.
+// The checks 1, 9, 2, 10, in this order.
 #[tactic(auto, using(outcome::proofs::Laws::checks), unfolding(sqv4_format::specs::Inspect::field_checks))]
 fn field_checks(file: &[u8], h: Header) -> Result<Header, Error>
     requires { 16 ≤ length file.now }

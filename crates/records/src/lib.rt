@@ -26,7 +26,7 @@ pub fn front<T>(s: &[T], n: usize) -> &[T]
     if n < s.len() { &s[..n] } else { s }
 }
 
-// Internal: puts what a program prints for an input into an answer.
+// Puts what a program prints for an input into an answer.
 pub fn put_printed<F: Fn(&[u8], &mut [u8; OUTPUT_SIZE]) -> usize>(
     answer: &mut Printer,
     input: &[u8],

@@ -135,8 +135,8 @@ fn replay_file<F: Fn(Question, &mut Printer) -> Option<()>>(
     }
 }
 
-// Internal: replays the list in each file, and prints what it gave. A file that can't be opened is named. No contract of the library says what a file
-// holds or what is printed: replay tries a list of wrong answers, each of which must be printed as one that differs.
+// Replays the list in each file, and prints what it gave. A file that can't be opened is named. No contract of the library says what a
+// file holds or what is printed: replay tries a list of wrong answers, each of which must be printed as one that differs.
 pub fn replay<F: Fn(Question, &mut Printer) -> Option<()>>(
     rt: &HostRuntime,
     names: &[&str],

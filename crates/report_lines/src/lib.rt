@@ -67,7 +67,7 @@ pub fn header_line(page: &mut Printer, h: Header)
     page.put(b"\n");
 }
 
-// Internal: the index field of a fragment.
+// The index field of a fragment.
 #[tactic(auto, using(crate::proofs::Lines::index_few), unfolding(crate::specs::Lines::index_field, text::specs::Text::letters))]
 fn index_field(page: &mut Printer, coding: Coding, fragment: &Coded)
     ensures prints { Printed page.old (index_field coding.version fragment.now.bytes.now) page.new }
@@ -79,7 +79,7 @@ fn index_field(page: &mut Printer, coding: Coding, fragment: &Coded)
     }
 }
 
-// Internal: the line of the fragment at the place `p` of a stream.
+// The line of the fragment at the place `p` of a stream.
 #[tactic(auto, using(crate::proofs::Lines::fragment_few))]
 pub fn fragment_line(page: &mut Printer, stream: &Stream, p: usize)
     requires { p < frames stream.now.header * stream.now.header.channels }

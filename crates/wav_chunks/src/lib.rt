@@ -9,7 +9,7 @@ use outcome::Error;
 use parts::Part;
 use wav_format::{Chunks, Format};
 
-// Internal: whether the four bytes from `at` on are these letters.
+// Whether the four bytes from `at` on are these letters.
 #[tactic(auto, using(lists::proofs::Letters::letters_equal, digits::proofs::Laws::tail_all), unfolding(wav_format::specs::Wave::letters_at))]
 pub fn letters_at(s: &[u8], at: usize, letters: &[u8; 4]) -> bool
     requires { at + 4 ≤ length s.now }
@@ -19,7 +19,7 @@ pub fn letters_at(s: &[u8], at: usize, letters: &[u8; 4]) -> bool
     s[at..].starts_with(letters)
 }
 
-// Internal: the fields of a fmt chunk whose contents start at `start`.
+// The fields of a fmt chunk whose contents start at `start`.
 #[tactic(auto, unfolding(wav_format::specs::Wave::format_at))]
 fn format_at(s: &[u8], start: usize, size: usize) -> Format
     requires { start + 16 ≤ length s.now }
@@ -36,7 +36,7 @@ fn format_at(s: &[u8], start: usize, size: usize) -> Format
     }
 }
 
-// Internal: the chunk at `c.at`, of a file whose RIFF end is `end`.
+// The chunk at `c.at`, of a file whose RIFF end is `end`.
 #[tactic(auto, using(outcome::proofs::Laws::checks), unfolding(wav_format::specs::Wave::chunk_step))]
 fn chunk(file: &[u8], end: usize, c: Chunks) -> Result<Chunks, Error>
     requires { (c.at ≤ end) × (end ≤ length file.now) }
@@ -68,7 +68,7 @@ fn chunk(file: &[u8], end: usize, c: Chunks) -> Result<Chunks, Error>
     Ok(Chunks { at, ..c })
 }
 
-// Internal: all chunks up to the RIFF end.
+// All chunks up to the RIFF end.
 pub fn walk_chunks(file: &[u8], end: usize) -> Result<Chunks, Error>
     requires { (12 ≤ end) × (end ≤ length file.now) }
     ensures { answered result ≡ walk file.now end }

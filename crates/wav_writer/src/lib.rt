@@ -8,8 +8,8 @@ ghost use Rattle.wav_writer.specs.Writer.{wave_header, sample_bytes, write_call}
 
 use outcome::Error;
 
-// Internal: the 44 bytes before `size` bytes of samples: those that every file has, fmt's size 16, encoding 1 and 16 bits among them, and
-// the fields that differ.
+// The 44 bytes before `size` bytes of samples: those that every file has, fmt's size 16, encoding 1 and 16 bits among them, and the fields
+// that differ.
 #[tactic(auto, unfolding(crate::specs::Writer::wave_header, digits::specs::Digits::digits))]
 fn wave_header(channels: u8, rate: u32, byte_rate: u32, riff: u32, size: u32) -> [u8; 44]
     requires { (byte_rate ≡ rate * frame_bytes channels) × (riff ≡ size + 36) }
@@ -27,8 +27,7 @@ fn wave_header(channels: u8, rate: u32, byte_rate: u32, riff: u32, size: u32) ->
     header
 }
 
-// Internal: the samples, two bytes each, from the front of `out` on, by their places, since a proof doesn't know what `chunks_exact_mut`
-// leaves.
+// The samples, two bytes each, from the front of `out` on, by their places, since a proof doesn't know what `chunks_exact_mut` leaves.
 fn put_samples(samples: &[i16], out: &mut [u8])
     requires { 2 * length samples.now ≤ length out.old }
     ensures { out.new ≡ sample_bytes samples.now ++ drop (2 * length samples.now) out.old }
