@@ -1,6 +1,5 @@
 -- What the whole-stream decoder promises, by the three ways in which it returns. Assumes nothing.
 use Prim.Native.Nat.{ℕ, ◌*◌, ◌≤◌, ◌<◌}
-use native.Mathlib.Omega.{arith}
 use mathlib.Core.Path.{◌≡◌, refl, sym, ◌∙◌, ap}
 use mathlib.Core.List.{List, ◌++◌}
 use lib.IntN.{ℤ}
@@ -17,8 +16,8 @@ use Rattle.sqv4_format.proofs.Agreement.{length-decoded}
 use Rattle.sqv4_format.specs.declared.Header.{Header}
 use Rattle.outcome.specs.declared.Error.{Error}
 use Rattle.std.specs.declared.result.Result.TheVariants.{Ok, Err}
-use Rattle.decoder.specs.Loops.{start_states, loop_out}
-use Rattle.decoder.proofs.DecodeLoop.{loop_decodes, fresh}
+use Rattle.decoder.specs.Loops.{loop_out}
+use Rattle.decoder.proofs.DecodeLoop.{loop_decodes}
 use Rattle.outcome.specs.declared.Error.TheVariants as E
 
 module _ (d : List ℕ) (out : List ℤ) where
@@ -38,16 +37,16 @@ module _ (d : List ℕ) (out : List ℤ) where
     decode_short l = as_refused (E.OutputTooShort _) (then_result _ h _ _ q (met _ _ _ _ (lt-ltb _ _ l)))
 
     -- the loop has filled it
-    pub decode_filled : h.samples * h.channels ≤ length out → 0 < h.channels → h.channels ≤ 2 → (r : List ℤ)
-        → r ≡ loop_out h d start_states out (frames h * h.channels) → AsDecoded d out (Ok h) r
+    pub decode_filled : h.samples * h.channels ≤ length out → 0 < h.channels → (r : List ℤ)
+        → r ≡ loop_out h d out (frames h * h.channels) → AsDecoded d out (Ok h) r
     unfolding decode_call
-    decode_filled l hc h2 r e =
+    decode_filled l hc r e =
         let s : Sound = record { header = h; samples = decoded h d } in
         let k : result s ≡ decode_call d (length out) = then_result _ h _ _ q (clear _ _ _ _ _ (le-ltb _ _ l) refl) in
         record {
           answered = sym (on_result_lem (λ (s : Sound). s.header) (decode_call d (length out)) (sym k));
           output_left =
-              e ∙ loop_decodes h d hc start_states h2 (λ i m. fresh i (omega arith)) out l
+              e ∙ loop_decodes h d hc out l
               ∙ ap (λ n. decoded h d ++ drop n out) (sym (length-decoded h d))
               ∙ sym (output_result _ (decoded h d) out (on_result_lem (λ (s : Sound). s.samples) (decode_call d (length out)) (sym k)));
         }

@@ -3,32 +3,25 @@ use Prim.Native.Nat.{ℕ, zero, suc, ◌+◌, ◌*◌, ◌/◌, ◌%◌, ◌≤�
 use native.Mathlib.Nat.{div-add-mod', div-mul-le_self, le-div_iff_mul-le, mul-le-mul_right}
 use native.Mathlib.Omega.{arith}
 use mathlib.Core.Bool.{true}
-use mathlib.Core.Path.{◌≡◌, refl, sym, ap, ◌∙◌}
+use mathlib.Core.Path.{◌≡◌, sym, ap, ◌∙◌}
 use mathlib.Core.Logic.{inl, inr, ◌≢◌, ◌⊎◌}
-use mathlib.Core.List.{List, [], ◌∷◌}
+use mathlib.Core.List.{List}
 use lib.IntN.{ℤ}
 use lib.ListN.{get_or, set, take}
 use lib.Seq.{get_or-set_other, take-take}
+use Rattle.std.proofs.lemmas.List.{set-get_or}
 use Rattle.lists.proofs.ByIndex.{take_tabulate}
 use Rattle.sqv4_format.specs.Layout.{anew, whole_frame, count, fragment_at_place}
 use Rattle.sqv4_format.specs.Decode.{zero_state, decoded_fragment}
 use Rattle.sqv4_format.specs.declared.State.{State}
 use Rattle.sqv4_format.specs.declared.Header.{Header}
 use Rattle.sqv4_format.proofs.Range.{returned_anew}
-use Rattle.decoder.specs.Loops.{states_after, place_decoded, InStep, start_states, loop_states}
-
--- an element is replaced by itself
-set_self : {A : Type 0} (d : A) (l : List A) (j k : ℕ) → get_or (set l j (get_or l j d)) k d ≡ get_or l k d
-set_self d [] j k = refl
-set_self d (a ∷ l) zero zero = refl
-set_self d (a ∷ l) zero (suc k) = refl
-set_self d (a ∷ l) (suc j) zero = refl
-set_self d (a ∷ l) (suc j) (suc k) = set_self d l j k
+use Rattle.decoder.specs.Loops.{states_after, place_decoded, InStep, loop_states}
 
 module _ (h : Header) (d : List ℕ) (p : ℕ) {n : ℕ} (step : InStep h p n) (hc : 0 < h.channels) where
   -- turn p + j finds its channel's state as it was before turn p
   pub finds : (k j : ℕ) → k ≤ j → j < n
-      → get_or (loop_states h d start_states (p + k)) ((p + j) % h.channels) zero_state ≡ get_or (loop_states h d start_states p) ((p + j) % h.channels) zero_state
+      → get_or (loop_states h d (p + k)) ((p + j) % h.channels) zero_state ≡ get_or (loop_states h d p) ((p + j) % h.channels) zero_state
   unfolding states_after
   finds zero j l m = let e : p + 0 ≡ p = omega arith in rw e
   finds (suc k) j l m =
@@ -39,7 +32,7 @@ module _ (h : Header) (d : List ℕ) (p : ℕ) {n : ℕ} (step : InStep h p n) (
       c = h.channels
 
       before : List State
-      before = loop_states h d start_states (p + k)
+      before = loop_states h d (p + k)
 
       turn : State
       turn = (place_decoded h d (p + k) (get_or before ((p + k) % c) zero_state)).state
@@ -50,7 +43,7 @@ module _ (h : Header) (d : List ℕ) (p : ℕ) {n : ℕ} (step : InStep h p n) (
       stays : anew h.version ≡ true → get_or (set before ((p + k) % c) turn) ((p + j) % c) zero_state ≡ get_or before ((p + j) % c) zero_state
       stays a =
           rw (returned_anew h.version h.variant (get_or before ((p + k) % c) zero_state) (fragment_at_place h d (p + k)) (count h ((p + k) / c)) a)
-          (set_self zero_state before ((p + k) % c) ((p + j) % c))
+          (rw set-get_or)
 
       go : ((p + k) / c ≡ p / c) ⊎ (anew h.version ≡ true) → ((p + j) / c ≡ p / c) ⊎ (anew h.version ≡ true)
           → get_or (set before ((p + k) % c) turn) ((p + j) % c) zero_state ≡ get_or before ((p + j) % c) zero_state

@@ -1,4 +1,3 @@
-pub mod Interleave
 pub mod Turns
 pub mod InStep
 pub mod DecodeLoop

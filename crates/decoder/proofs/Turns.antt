@@ -1,15 +1,15 @@
 -- Fragments in file order, each channel with a state of its own in one list: the channel whose turn it is has the state that its
 -- own fragments alone lead to. Assumes nothing.
-use Prim.Native.Nat.{ℕ, zero, suc, ◌+◌, ◌*◌, ◌-◌, ◌/◌, ◌%◌, ◌≤◌, ◌<◌}
+use Prim.Native.Nat.{ℕ, zero, suc, ◌+◌, ◌*◌, ◌/◌, ◌%◌, ◌≤◌, ◌<◌}
 use native.Mathlib.Omega.{arith}
 use native.Mathlib.Nat.{div-add-mod', mod-lt}
-use native.Mathlib.Decide.{dec_lt, ℕ_discrete}
+use native.Mathlib.Decide.{ℕ_discrete}
 use mathlib.Core.Path.{◌≡◌, refl, sym, ◌∙◌, ap}
-use mathlib.Core.Logic.{◌≢◌}
 use mathlib.Core.List.{List}
-use lib.Arith.{digits_div}
+use lib.Arith.{digits_mod}
 use lib.ListN.{length, get_or, set, length-set}
 use lib.Seq.{get_or-set_same, get_or-set_other}
+use Rattle.std.proofs.lemmas.List.{length-replicate, get_or-replicate}
 use Rattle.decoder.specs.Loops.{states_after}
 
 -- the state of channel k after f of its own fragments
@@ -17,95 +17,50 @@ unfoldable pub chain : {S : Type 0} → S → ℕ → (ℕ → S → S) → ℕ 
 chain z c g k zero = z
 chain z c g k (suc f) = g (f * c + k) (chain z c g k f)
 
--- how many of channel k's fragments are among the first p
-turns : ℕ → ℕ → ℕ → ℕ
-turns c p k = (p + (c - 1 - k)) / c
-
-module _ (c : ℕ) where
-  turns_late : (q r k : ℕ) → r < c → k < c → r ≤ k → turns c (q * c + r) k ≡ q
-  unfolding turns
-  turns_late q r k hr hk l =
-      ap (λ n. n / c) (regroup (q * c)) ∙ digits_div q (small hr hk l)
-    where
-      regroup : (a : ℕ) → a + r + (c - 1 - k) ≡ a + (r + (c - 1 - k))
-      regroup a = omega arith
-
-      small : r < c → k < c → r ≤ k → r + (c - 1 - k) < c
-      small hr hk l = omega arith
-
-  turns_early : (q r k : ℕ) → r < c → k < r → turns c (q * c + r) k ≡ suc q
-  unfolding turns
-  turns_early q r k hr l =
-      ap (λ n. n / c) (regroup hr l) ∙ digits_div (suc q) (small hr l)
-    where
-      regroup : r < c → k < r → q * c + r + (c - 1 - k) ≡ suc q * c + (r - 1 - k)
-      regroup hr l = omega arith
-
-      small : r < c → k < r → r - 1 - k < c
-      small hr l = omega arith
-
-  turns_same : (p : ℕ) → 0 < c → turns c p (p % c) ≡ p / c
-  turns_same p hc = ap (λ n. turns c n (p % c)) (sym (div-add-mod' p c)) ∙ turns_late (p / c) (p % c) (p % c) (mod-lt p hc) (mod-lt p hc) (omega arith)
-
-  module _ (p : ℕ) (hc : 0 < c) where
-    next : suc p ≡ p / c * c + suc (p % c)
-    next = omega (arith, div-add-mod' p c)
-
-    wrap : suc (p % c) ≡ c → suc p ≡ suc (p / c) * c + 0
-    wrap w = omega (arith, div-add-mod' p c)
-
-    now : p ≡ p / c * c + p % c
-    now = sym (div-add-mod' p c)
-
-    turn_taken : turns c (suc p) (p % c) ≡ suc (p / c)
-    turn_taken = go (dec_lt (suc (p % c)) c)
-      where
-        go : Dec (suc (p % c) < c) → turns c (suc p) (p % c) ≡ suc (p / c)
-        go (yes l) = ap (λ n. turns c n (p % c)) next ∙ turns_early (p / c) (suc (p % c)) (p % c) l (omega arith)
-        go (no l) = ap (λ n. turns c n (p % c)) (wrap (omega (arith, mod-lt p hc))) ∙ turns_late (suc (p / c)) 0 (p % c) hc (mod-lt p hc) (omega arith)
-
-    turn_not : (k : ℕ) → k < c → k ≢ p % c → turns c (suc p) k ≡ turns c p k
-    turn_not k hk e = go (dec_lt (suc (p % c)) c) (dec_lt k (p % c))
-      where
-        go : Dec (suc (p % c) < c) → Dec (k < p % c) → turns c (suc p) k ≡ turns c p k
-        go (yes l) (yes m) =
-            ap (λ n. turns c n k) next ∙ turns_early (p / c) (suc (p % c)) k l (omega arith)
-            ∙ sym (ap (λ n. turns c n k) now ∙ turns_early (p / c) (p % c) k (mod-lt p hc) m)
-        go (yes l) (no m) =
-            ap (λ n. turns c n k) next ∙ turns_late (p / c) (suc (p % c)) k l hk (omega arith)
-            ∙ sym (ap (λ n. turns c n k) now ∙ turns_late (p / c) (p % c) k (mod-lt p hc) hk (omega arith))
-        go (no l) (yes m) =
-            ap (λ n. turns c n k) (wrap (omega (arith, mod-lt p hc))) ∙ turns_late (suc (p / c)) 0 k hc hk (omega arith)
-            ∙ sym (ap (λ n. turns c n k) now ∙ turns_early (p / c) (p % c) k (mod-lt p hc) m)
-        go (no l) (no m) = let w : ⊥ = omega (arith, mod-lt p hc) in absurd w
-
-module _ {S : Type 0} (z : S) (c : ℕ) (g : ℕ → S → S) (states : List S) (hc : 0 < c) (room : c ≤ length states) where
-  pub length_states : (p : ℕ) → length (states_after z c g states p) ≡ length states
+module _ {S : Type 0} (z : S) (c : ℕ) (g : ℕ → S → S) where
+  pub length_states : (p : ℕ) → length (states_after z c g p) ≡ c
   unfolding states_after
-  length_states zero = refl
-  length_states (suc p) =
-      length-set (states_after z c g states p) (p % c) _ ∙ length_states p
+  length_states zero = length-replicate c z
+  length_states (suc p) = length-set (states_after z c g p) (p % c) _ ∙ length_states p
 
-  module _ (fresh : (k : ℕ) → k < c → get_or states k z ≡ z) where
-    states_at : (p k : ℕ) → k < c → get_or (states_after z c g states p) k z ≡ chain z c g k (turns c p k)
-    unfolding states_after chain
-    states_at zero k hk = fresh k hk ∙ sym (ap (chain z c g k) (ap (λ n. turns c n k) zero_is ∙ turns_late c 0 0 k hc hk (omega arith)))
-      where
-        zero_is : 0 ≡ 0 * c + 0
-        zero_is = omega arith
-    states_at (suc p) k hk = go (ℕ_discrete k (p % c)) (states_at p k hk)
-      where
-        go : Dec (k ≡ p % c) → get_or (states_after z c g states p) k z ≡ chain z c g k (turns c p k)
-            → get_or (set (states_after z c g states p) (p % c) (g p (get_or (states_after z c g states p) (p % c) z))) k z ≡ chain z c g k (turns c (suc p) k)
-        go (yes e) ih =
-            rw (e, turn_taken c p hc)
-            (get_or-set_same (states_after z c g states p) (p % c) (g p (get_or (states_after z c g states p) (p % c) z)) z (rw length_states (omega (arith, mod-lt p hc)))
-            ∙ ap (g p) ((rw e at ih) ∙ ap (chain z c g (p % c)) (turns_same c p hc))
-            ∙ ap (λ n. g n (chain z c g (p % c) (p / c))) (now c p hc))
-        go (no e) ih =
-            get_or-set_other (states_after z c g states p) (p % c) k (g p (get_or (states_after z c g states p) (p % c) z)) z e
-            ∙ ih ∙ ap (chain z c g k) (sym (turn_not c p hc k hk e))
+  -- channel k's state in a list, after f frames and r fragments of the next
+  abbrev Has : List S → ℕ → ℕ → ℕ → Type 0
+  Has s f r k = (k < r → get_or s k z ≡ chain z c g k (suc f)) × (r ≤ k → get_or s k z ≡ chain z c g k f)
 
-    -- the channel whose turn it is
-    pub turn_state_lem : (p : ℕ) → get_or (states_after z c g states p) (p % c) z ≡ chain z c g (p % c) (p / c)
-    turn_state_lem p = states_at p (p % c) (mod-lt p hc) ∙ ap (chain z c g (p % c)) (turns_same c p hc)
+  next : (k f : ℕ) → chain z c g k (suc f) ≡ g (f * c + k) (chain z c g k f)
+  unfolding chain
+  next k f = refl
+
+  turn : (f r k : ℕ) → r < c → Has (states_after z c g (f * c + r)) f r k → Has (states_after z c g (f * c + suc r)) f (suc r) k
+  unfolding states_after
+  turn f r k hr has =
+      let e : f * c + suc r ≡ suc (f * c + r) = omega arith in
+      rw (e, digits_mod f hr) (go (ℕ_discrete k r))
+    where
+      s : List S
+      s = states_after z c g (f * c + r)
+
+      go : Dec (k ≡ r) → Has (set s r (g (f * c + r) (get_or s r z))) f (suc r) k
+      go (yes q) =
+          rw q (
+            λ l. get_or-set_same s r (g (f * c + r) (get_or s r z)) z (rw length_states hr) ∙ ap (g (f * c + r)) ((rw q at has).1 (omega arith)) ∙ sym (next r f),
+            λ l. absurd (omega arith),
+          )
+      go (no q) =
+          let other : get_or (set s r (g (f * c + r) (get_or s r z))) k z ≡ get_or s k z = get_or-set_other s r k (g (f * c + r) (get_or s r z)) z q in
+          (λ l. other ∙ has.0 (omega arith), λ l. other ∙ has.1 (omega arith))
+
+  frame : (f : ℕ) → ((k : ℕ) → k < c → get_or (states_after z c g (f * c)) k z ≡ chain z c g k f) → (r k : ℕ) → r ≤ c → k < c → Has (states_after z c g (f * c + r)) f r k
+  frame f before zero k hr hk = let e : f * c + 0 ≡ f * c = omega arith in rw e (λ l. absurd (omega arith), λ l. before k hk)
+  frame f before (suc r) k hr hk = turn f r k hr (frame f before r k (omega arith) hk)
+
+  frames : (f k : ℕ) → k < c → get_or (states_after z c g (f * c)) k z ≡ chain z c g k f
+  unfolding states_after chain
+  frames zero k hk = let e : 0 * c ≡ 0 = omega arith in rw e (get_or-replicate c k z z hk)
+  frames (suc f) k hk = let e : suc f * c ≡ f * c + c = omega arith in rw e ((frame f (frames f) c k (omega arith) hk).0 hk)
+
+  -- the channel whose turn it is
+  pub turn_state_lem : 0 < c → (p : ℕ) → get_or (states_after z c g p) (p % c) z ≡ chain z c g (p % c) (p / c)
+  turn_state_lem hc p =
+      let k : p % c < c = mod-lt p hc in
+      rw div-add-mod' at ((frame (p / c) (frames (p / c)) (p % c) (p % c) (omega arith) k).1 (omega arith))

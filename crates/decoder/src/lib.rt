@@ -3,51 +3,35 @@
 
 ghost use Rattle.std.specs.Prelude.{◌≡◌, ℕ, ◌+◌, ◌*◌, ◌%◌, ◌<◌, ◌≤◌, List, ℤ, pos, length};
 ghost use Rattle.sqv4_format.specs.Layout.{frames};
+ghost use Rattle.layout.specs.declared.TheConstants.{MOST_CHANNELS};
 ghost use Rattle.sqv4_format.specs.Promises.{AsDecoded};
-ghost use Rattle.decoder.specs.Loops.{spread, put_at, InStep, Decoding, start_states, loop_out};
+ghost use Rattle.decoder.specs.Loops.{put_at, InStep, Decoding, loop_out};
 
 use decoder_fragment::Player;
 use layout::{Place, Stream};
 use outcome::Error;
 use sqv4_format::{Header, Reached};
 
-// Internal: samples go to every CHANNELS-th place of the output, sample w to (first + w) * CHANNELS + channel. A constant, so that of one
-// channel eight samples are copied at a time; with a variable for two, stereo took a seventh longer.
-fn spread<const CHANNELS: usize>(out: &mut [i16], samples: &[i16], first: usize, channel: usize)
-    requires { (channel < CHANNELS) × ((first + length samples.now) * CHANNELS ≤ length out.old) }
-    ensures { out.new ≡ spread (pos 0) out.old samples.now first CHANNELS channel (length samples.now) }
-{
-    for (w, sample) in samples.iter().enumerate() {
-        out[(first + w) * CHANNELS + channel] = *sample;
-    }
-}
-
-// Internal: the samples of the fragment at a place go into the output, sample t of channel c to t * channels + c. The bound of the
-// channels and the room stand in three contracts: a type for them would have to hold the place here, the player there, and lend `out`.
+// Internal: the samples of the fragment at a place go into the output, sample t of channel c to t * channels + c. The room stands in three
+// contracts: a type for it would have to hold the place here, the player there, and lend `out`.
 fn put(place: Place, samples: &[i16; 64], out: &mut [i16])
-    requires { (place.header.channels ≤ 2) × (place.header.samples * place.header.channels ≤ length out.old) }
+    requires { place.header.samples * place.header.channels ≤ length out.old }
     ensures { out.new ≡ put_at place.header place.p samples.now out.old }
 {
-    let first = place.first();
-    let samples = &samples[..place.samples()];
-    let channel = place.channel();
-    if place.header.channels == 1 {
-        spread::<1>(out, samples, first, channel);
-    } else {
-        spread::<2>(out, samples, first, channel);
-    }
+    interleave::spread(
+        out,
+        &samples[..place.samples()],
+        place.first(),
+        place.header.channels as usize,
+        place.channel(),
+    );
 }
 
 // Internal: the turns of N fragments from place `p` on, side by side: their samples go into the output, and their channels' states
 // move on.
-fn decode_lanes<const N: usize>(
-    player: Player,
-    p: usize,
-    states: &mut [Reached; 2],
-    out: &mut [i16],
-)
+fn decode_lanes<const N: usize>(player: Player, p: usize, states: &mut [Reached], out: &mut [i16])
     requires { (0 < N) × (p + N ≤ frames player.stream.header * player.stream.header.channels) × InStep player.stream.header p N
-        × (player.stream.header.channels ≤ 2) × (player.stream.header.samples * player.stream.header.channels ≤ length out.old) }
+        × (player.stream.header.channels ≤ length states.old) × (player.stream.header.samples * player.stream.header.channels ≤ length out.old) }
     ensures { (o : List ℤ) → Decoding player.entry.stream.header player.entry.stream.file.now o p out.old states.old
         → Decoding player.entry.stream.header player.entry.stream.file.now o (p + N) out.new states.new }
 {
@@ -78,12 +62,12 @@ fn pairs(header: Header, fragments: usize) -> usize
 
 // Internal: the samples of every fragment, in file order, with one state for each channel.
 fn decode_fragments(player: Player, out: &mut [i16])
-    requires { (player.stream.header.channels ≤ 2) × (player.stream.header.samples * player.stream.header.channels ≤ length out.old) }
-    ensures { out.new ≡ loop_out player.entry.stream.header player.entry.stream.file.now start_states out.old (frames player.entry.stream.header * player.entry.stream.header.channels) }
+    requires { (player.stream.header.channels ≤ MOST_CHANNELS) × (player.stream.header.samples * player.stream.header.channels ≤ length out.old) }
+    ensures { out.new ≡ loop_out player.entry.stream.header player.entry.stream.file.now out.old (frames player.entry.stream.header * player.entry.stream.header.channels) }
 {
     let fragments = player.stream.fragments();
     let pairs = pairs(player.stream.header, fragments);
-    let mut states = [Reached::zero(); 2];
+    let mut states = [Reached::zero(); layout::MOST_CHANNELS];
     for i in 0..pairs {
         decode_lanes::<2>(player, 2 * i, &mut states, out);
     }

@@ -12,7 +12,7 @@ use Rattle.lists.specs.Lists.{tabulate, joined}
 use Rattle.digits.proofs.Laws.{part_put}
 use Rattle.lists.proofs.ByIndex.{tabulate_part, length-joined}
 use Rattle.sqv4_format.specs.Layout.{encoder_version, fragment_size, whole_frame, size_in, count}
-use Rattle.sqv4_format.specs.Encode.{encoded_fragment, channel, frame_of, fragment_for, header_written}
+use Rattle.sqv4_format.specs.Encode.{encoded_fragment, channel, fragment_for, header_written}
 use Rattle.sqv4_format.proofs.Encoder.{sized}
 use Rattle.sqv4_format.specs.declared.Header.{Header}
 use Rattle.sqv4_format.specs.declared.Settings.{Settings}
@@ -41,12 +41,6 @@ module _ (header : List ℕ) (start : ℕ) (whole : length header ≡ start) (f 
       let high : drop (here + size) out ≡ drop (here + size) o =
       sym (drop-drop size here out) ∙ ap (λ l. drop size (drop here l)) e ∙ ap (drop size) (drop_at front (drop here o) here (front_length p)) ∙ drop-drop size here o in
       rw (ea, el) (part_put here size out g ∙ rw (low, high, next, add-one) (ap (λ l. l ++ drop (here + size) o) (append_assoc header (joined f p) (f p))))
-
--- frame f of a channel, as it is gathered from the interleaved samples
-pub gathered : (pcm : List ℤ) (channels c f : ℕ)
-    → frame_of (channel pcm channels c) f ≡ tabulate (λ w. get_or pcm ((f * 63 + w) * channels + c) (pos 0)) (min 63 (length pcm / channels - f * 63))
-unfolding channel
-gathered pcm channels c f = tabulate_part (λ t. get_or pcm (t * channels + c) (pos 0)) (pos 0) (length pcm / channels) (f * 63) 63
 
 -- what the loop reads of the header that is written
 module _ (k : Settings) (pcm : List ℤ) (channels rate : ℕ) (h : Header) (written : h ≡ header_written k pcm channels rate) where
@@ -80,15 +74,11 @@ module _ (k : Settings) (pcm : List ℤ) (c : ℕ) (o : List ℕ) where
   writing_none = record { out_is = sym (take-append-drop 16 o) ∙ put_none _ _ _ _ _ }
 
   -- one fragment more: its samples are gathered, encoded, and come back in the part of the output that was lent
-  pub writing_more : (p n at len : ℕ) {out : List ℕ} (s : List ℤ) {bytes : List ℕ} → at ≡ 16 + p * fragment_size encoder_version k.variant → len ≡ fragment_size encoder_version k.variant
+  pub writing_more : (p at len : ℕ) {out : List ℕ} {s : List ℤ} {bytes : List ℕ} → at ≡ 16 + p * fragment_size encoder_version k.variant → len ≡ fragment_size encoder_version k.variant
       → Writing p out → 16 ≤ length o
-      → take n s ≡ tabulate (λ w. get_or pcm ((p / c * 63 + w) * c + p % c) (pos 0)) n → n ≡ min 63 (length pcm / c - p / c * 63)
-      → bytes ≡ encoded_fragment k (take n s)
+      → s ≡ tabulate (λ w. get_or pcm ((p / c * 63 + w) * c + p % c) (pos 0)) (min 63 (length pcm / c - p / c * 63)) → bytes ≡ encoded_fragment k s
       → Writing (p + 1) (take at out ++ (bytes ++ drop (at + len - at) (drop at out)))
-  unfolding fragment_for
-  writing_more p n at len s ea el w l eg en eb =
-      let same : take n s ≡ frame_of (channel pcm c (p % c)) (p / c) =
-      eg ∙ ap (tabulate (λ w. get_or pcm ((p / c * 63 + w) * c + p % c) (pos 0))) en ∙ sym (gathered pcm c (p % c) (p / c)) in
-      record {
-        out_is = put_more (take 16 o) 16 (length-take-le 16 o l) (fragment_for k pcm c) size (sized k pcm c 0) o p at len ea el w.out_is (eb ∙ ap (encoded_fragment k) same);
-      }
+  unfolding fragment_for channel
+  writing_more p at len ea el w l es eb =
+      let same = es ∙ sym (tabulate_part (λ t. get_or pcm (t * c + p % c) (pos 0)) (pos 0) (length pcm / c) (p / c * 63) 63) in
+      record { out_is = put_more (take 16 o) 16 (length-take-le 16 o l) (fragment_for k pcm c) size (sized k pcm c 0) o p at len ea el w.out_is (eb ∙ ap (encoded_fragment k) same) }

@@ -48,20 +48,6 @@ fn put_header(out: &mut [u8], h: Header)
     out[..layout::HEADER_SIZE].copy_from_slice(&header_bytes(h));
 }
 
-// Internal: n samples of one channel, from sample `first` of it on, at the front of 63 places; sample w lies at
-// (first + w) * channels + channel. An array, as in `encoder_fragment`: the caller has n.
-fn gather(pcm: &[i16], first: usize, channels: usize, channel: usize, n: usize) -> [i16; 63]
-    requires { (n ≤ 63) × (channel < channels) × ((first + n) * channels ≤ length pcm.now) }
-    ensures { take n result ≡ tabulate (λ w. get_or pcm.now ((first + w) * channels + channel) (pos 0)) n }
-{
-    let mut r = [0i16; 63];
-    for (w, x) in r[..n].iter_mut().enumerate() {
-        let j = (first + w) * channels + channel;
-        *x = pcm[j];
-    }
-    r
-}
-
 // Internal: the fragments of the encoding with this header, in file order, behind the 16 bytes of the header. Each part of the output is
 // lent by its place, since a proof doesn't know what `chunks_exact_mut` leaves.
 fn put_fragments(coder: &Coder, pcm: &[i16], h: Header, out: &mut [u8])
@@ -73,11 +59,12 @@ fn put_fragments(coder: &Coder, pcm: &[i16], h: Header, out: &mut [u8])
     let size = h.coding().fragment_size();
     for p in 0..layout::fragment_count(h) {
         let place = Place { header: h, p };
-        let n = place.samples();
-        let s = gather(pcm, place.first(), channels, place.channel(), n);
+        let mut samples = [0i16; Variant::FRAGMENT_SAMPLES];
+        let samples = &mut samples[..place.samples()];
+        interleave::gather(pcm, place.first(), channels, place.channel(), samples);
         let at = place.start();
         let end = at + size;
-        encoder_fragment::encode_fragment(coder, &s[..n], &mut out[at..end]);
+        encoder_fragment::encode_fragment(coder, samples, &mut out[at..end]);
     }
 }
 

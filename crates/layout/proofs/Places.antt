@@ -1,7 +1,7 @@
--- Where the fragments of a stream lie, and a channel's samples in an interleaved list. Assumes nothing.
-use Prim.Native.Nat.{ℕ, suc, ◌+◌, ◌-◌, ◌*◌, ◌/◌, ◌^◌, ◌≤◌, ◌<◌}
+-- Where the fragments of a stream lie. Assumes nothing.
+use Prim.Native.Nat.{ℕ, ◌+◌, ◌-◌, ◌*◌, ◌/◌, ◌^◌, ◌≤◌, ◌<◌}
 use native.Mathlib.Omega.{arith}
-use native.Mathlib.Nat.{mul-le-mul, mul-le-mul_right, mul-le-mul_left, lt_of_mul-lt-mul_left, lt_of_mul-lt-mul_right, div-lt_iff_lt-mul, div-mul-le_self, div-add-mod', mod-lt, add-sub_cancel_left}
+use native.Mathlib.Nat.{mul-le-mul, mul-le-mul_right, lt_of_mul-lt-mul_left, lt_of_mul-lt-mul_right, div-lt_iff_lt-mul, div-mul-le_self, div-add-mod', mod-lt, add-sub_cancel_left}
 use native.Mathlib.Decide.{dec_lt}
 use mathlib.Core.Bool.{cond}
 use borrow.Author.Tests.{lt-ltb, le-ltb}
@@ -12,8 +12,6 @@ use mathlib.Core.Path.{◌≡◌}
 use Rattle.sqv4_format.specs.Layout.{whole_frame, frames, count, size_in, stream_length, fragment_at_place}
 use Rattle.sqv4_format.proofs.Sizes.{frames_few, frame_in}
 use Rattle.sqv4_format.specs.declared.Header.{Header}
-
--- ---- fragments
 
 -- the part of a stream from a fragment's first byte to its end, as a part of a slice is given
 pub part_place : (h : Header) (d : List ℕ) (p : ℕ) → take (16 + p * size_in h + size_in h - (16 + p * size_in h)) (drop (16 + p * size_in h) d) ≡ fragment_at_place h d p
@@ -69,20 +67,3 @@ module _ (h : Header) (p : ℕ) (l : p < frames h * h.channels) where
           let above : frames h < f + 2 = lt_of_mul-lt-mul_right c (omega (arith, high)) in
           let here : f ≡ frames h - 1 = omega (arith, f_in) in
           rw (le-ltb (p + c) (frames h * c) (omega arith), here)
-
--- ---- samples
-
--- sample w of n of one channel: its place is in the list, and not before its number
-pub record Sample (first w channels ch len : ℕ) : Type 0 where
-  pub within : (first + w) * channels + ch < len
-  pub above : first + w ≤ (first + w) * channels
-
-pub place_in : (first w n channels ch len : ℕ) → w < n → ch < channels → (first + n) * channels ≤ len → Sample first w channels ch len
-place_in first w n channels ch len hw hc h =
-    record { within = omega (arith, mul-le-mul_right channels (less first hw)); above = omega (arith, mul-le-mul_left (first + w) (some hc)) }
-  where
-    less : (first : ℕ) → w < n → suc (first + w) ≤ first + n
-    less first hw = omega arith
-
-    some : ch < channels → 1 ≤ channels
-    some hc = omega arith

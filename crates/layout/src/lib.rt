@@ -48,6 +48,9 @@ pub fn stream_length(h: Header) -> usize
     HEADER_SIZE + fragment_count(h) * h.coding().fragment_size()
 }
 
+// No version has more channels.
+pub const MOST_CHANNELS: usize = 2;
+
 // Whether the version has this channel count. No call of `wav_format::one_or_two`: that is the rule of WAV's channel field, this one
 // SQV4's, where the version may matter.
 #[tactic(auto, unfolding(sqv4_format::specs::Layout::channels_fit))]

@@ -27,4 +27,4 @@ decode_fragments-requires c =
 pub returns : goal.returns
 returns c =
     let few = channels_few _ _ (accepted _ _ (sym c.in_ok-header.ensures)).channels in
-    decode_filled _ _ _ c.in_ok-header.ensures c.if-out-needed.false few.0 few.1 _ (rw (c.of.ensures.0, c.of.ensures.1) at c.decode_fragments.ensures)
+    decode_filled _ _ _ c.in_ok-header.ensures c.if-out-needed.false few.0 _ (rw (c.of.ensures.0, c.of.ensures.1) at c.decode_fragments.ensures)

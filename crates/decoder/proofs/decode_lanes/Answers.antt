@@ -19,4 +19,4 @@ loop-k-2-preserved g c = λ o t.
     let l = c.loop-k-2-test.true in
     let z = c.state-item-in-loop-k-2.result in
     rw (c.put.ensures, c.place.ensures.0, c.place.ensures.1)
-    (lane_more c.requires.2 c.args.player.stream.channels c.requires.3 t (c.loop-k-2.invariant o t) l _ _ z _ (c.loop-k.invariant.each k (omega arith) z) (c.play-after.ensures k l z))
+    (lane_more c.requires.2 c.args.player.stream.channels t (c.loop-k-2.invariant o t) l _ _ z _ (c.loop-k.invariant.each k (omega arith) z) (c.play-after.ensures k l z))

@@ -4,11 +4,13 @@ use Prim.Native.Nat.{◌+◌, ◌-◌, ◌*◌, ◌/◌, ◌≤◌, min}
 use native.Mathlib.Nat.{le_trans, mul-le-mul_right}
 use native.Mathlib.Omega.{arith}
 use borrow.Author.Rules.{rules}
-use lib.ListN.{length, length-take, length-drop}
+use lib.IntN.{pos}
+use lib.ListN.{length, take, replicate, length-take, length-drop}
+use lib.Seq.{length-take-le}
 use Rattle.sqv4_format.specs.Layout.{encoder_version, fragment_size, size_in}
 use Rattle.encoder.proofs.EncodeLoop.{writing_none, writing_more, written_size, written_frame, written_samples, written_count}
 use Rattle.encoder.proofs.put_fragments.Goals as goal
-use Rattle.encoder.proofs.put_fragments.Goals.{In-loop-p, After-samples-n, After-start-at}
+use Rattle.encoder.proofs.put_fragments.Goals.{In-loop-p, After-samples, After-start-at}
 
 size : (c : In-loop-p) → c.fragment_size-size.result ≡ fragment_size encoder_version c.args.coder.now.settings.variant
 size c = rw (c.fragment_size-size.ensures.0, c.coding.ensures) (written_size _ _ _ _ _ c.requires.1)
@@ -20,40 +22,43 @@ here c =
     rw same (le_trans c.start-at.ensures.1 c.requires.2)
 
 -- this turn's samples
-n_is : (c : After-samples-n) → c.samples-n.result ≡ min 63 (length c.args.pcm.now / c.args.h.channels - c.loop-p.p / c.args.h.channels * 63)
-n_is c = c.samples-n.ensures.0 ∙ written_count _ _ _ _ _ c.requires.1 (c.loop-p.p / c.args.h.channels)
+n_is : (c : After-samples) → c.samples.result ≡ min 63 (length c.args.pcm.now / c.args.h.channels - c.loop-p.p / c.args.h.channels * 63)
+n_is c = c.samples.ensures.0 ∙ written_count _ _ _ _ _ c.requires.1 (c.loop-p.p / c.args.h.channels)
 
-few : (c : After-samples-n) → c.samples-n.result ≤ 63
+few : (c : After-samples) → c.samples.result ≤ 63
 few c = omega (arith, n_is c)
+
+taken : (c : After-samples) → length (take c.samples.result (replicate 63 (pos 0))) ≡ c.samples.result
+taken c = length-take-le c.samples.result (replicate 63 (pos 0)) (few c)
 
 pub loop-p-init : goal.loop-p-init
 loop-p-init c = writing_none _ _ _ _
 
-pub gather-s-requires : goal.gather-s-requires
-gather-s-requires c =
-    let n = few (goal.at.gather-s-requires c).After-samples-n in
-    let inside : c.first.result + c.samples-n.result ≤ c.args.h.samples = rw c.first.ensures c.samples-n.ensures.2 in
-    (n, c.channel.ensures.1, omega (arith, mul-le-mul_right c.args.h.channels inside, written_samples _ _ _ _ _ c.requires.1))
+pub gather-requires : goal.gather-requires
+gather-requires c =
+    let inside : c.first.result + c.samples.result ≤ c.args.h.samples = rw c.first.ensures c.samples.ensures.2 in
+    let all = written_samples _ _ _ _ _ c.requires.1 in
+    (c.channel.ensures.1, rw (taken (goal.at.gather-requires c).After-samples) (le_trans (mul-le-mul_right c.args.h.channels inside) all))
 
-pub slice_bounds-s-end : goal.slice_bounds-s-end
-slice_bounds-s-end c = let n = few (goal.at.slice_bounds-s-end c).After-samples-n in search rules
+pub slice_bounds-samples-end : goal.slice_bounds-samples-end
+slice_bounds-samples-end c = let n = few (goal.at.slice_bounds-samples-end c).After-samples in search rules
 
-pub slice_bounds-encode_fragment-end : goal.slice_bounds-encode_fragment-end
-slice_bounds-encode_fragment-end c = let n = few (goal.at.slice_bounds-encode_fragment-end c).After-samples-n in search rules
+pub slice_bounds-samples-end-in-loop-p : goal.slice_bounds-samples-end-in-loop-p
+slice_bounds-samples-end-in-loop-p c = let n = few (goal.at.slice_bounds-samples-end-in-loop-p c).After-samples in search rules
 
 pub encode_fragment-requires : goal.encode_fragment-requires
 encode_fragment-requires c =
     let at = goal.at.encode_fragment-requires c in
-    let n = few at.After-samples-n in
+    let n = few at.After-samples in
     let e = size at.In-loop-p in
     let h = here at.After-start-at in
     let long = c.loop-p.auto.out in
-    (simp length-take (omega arith), simp (length-take, length-drop) (omega arith))
+    (rw (c.gather.auto.samples, taken at.After-samples) n, simp (length-take, length-drop) (omega arith))
 
 pub loop-p-preserved : goal.loop-p-preserved
 loop-p-preserved c =
+    let at = goal.at.loop-p-preserved c in
     let w = c.requires.1 in
     let start = rw (written_size _ _ _ _ _ w) at c.start-at.ensures.0 in
-    let samples = rw (c.first.ensures, written_frame _ _ _ _ _ w, c.channel.ensures.0) at c.gather-s.ensures in
-    writing_more _ _ _ _ _ _ _ _ _ start (size (goal.at.loop-p-preserved c).In-loop-p) c.loop-p.invariant (omega (arith, c.requires.2)) samples
-    (n_is (goal.at.loop-p-preserved c).After-samples-n) c.encode_fragment.ensures
+    let samples = rw (taken at.After-samples, n_is at.After-samples, c.first.ensures, written_frame _ _ _ _ _ w, c.channel.ensures.0) at c.gather.ensures in
+    writing_more _ _ _ _ _ _ _ start (size at.In-loop-p) c.loop-p.invariant (omega (arith, c.requires.2)) samples c.encode_fragment.ensures
