@@ -24,7 +24,7 @@ use Rattle.parts.specs.Parts.{part_in}
 use Rattle.wav_format.specs.Wave.{read_wave, part_of}
 use Rattle.wav_format.specs.Samples.{samples_of, samples_call}
 use Rattle.outcome.specs.Table.{number_of, values_of, refusal, Gives}
-use Rattle.outcome.proofs.Table.{gives_refused}
+use Rattle.outcome.proofs.Table.{gives_refused, given}
 use Rattle.wav_format.specs.declared.Wave.{Wave}
 use Rattle.outcome.specs.declared.Error.{Error}
 use Rattle.wav_format.proofs.Claims.{load_accepts}
@@ -88,19 +88,9 @@ fragments_few h l = omega (arith, mul-le-mul_left (frames h * h.channels) (fragm
 
 module _ (bytes : List ℕ) (out output : List ℤ) (room : length bytes / 2 ≤ length out) where
   pub loaded : (n : ℕ) → Gives (samples_call bytes (length out)) out (Ok n) output → (n ≡ length bytes / 2) × (take n output ≡ samples_of bytes)
-  unfolding on_result output_after
   loaded n p =
-      let same : result n ≡ result (length (samples_of bytes)) = rw (load_accepts bytes (length out) room) at p.answered in
-      let count : n ≡ length (samples_of bytes) = cc in
-      (count ∙ length_samples bytes, rw (p.output_left, load_accepts bytes (length out) room) (take_at (samples_of bytes) _ n (sym count)))
-
-  pub not_loaded : {P : Type 0} (e : Error) → Gives (samples_call bytes (length out)) out (Err e) output → P
-  unfolding on_result
-  not_loaded e p =
-      let refuses : refusal e ≡ result (length (samples_of bytes)) = rw (load_accepts bytes (length out) room) at p.answered in
-      let z : ◌≡◌ {A = ℕ} 0 1 = cc in
-      let no : ⊥ = omega arith in
-      absurd no
+      let g = given (load_accepts bytes (length out) room) p in
+      (g.0 ∙ length_samples bytes, rw g.1 (take_at (samples_of bytes) _ n (sym g.0)))
 
 -- ---- the encoder
 

@@ -1,5 +1,5 @@
 -- How a chain of checks is followed, and what a call leaves of its output. Assumes nothing.
-use mathlib.Core.Path.{◌≡◌, refl, ◌∙◌}
+use mathlib.Core.Path.{◌≡◌, refl, sym, ◌∙◌}
 use Prim.Native.Nat.{ℕ, zero, suc, ◌<◌}
 use native.Mathlib.Omega.{arith}
 use native.Mathlib.Decide.{ℕ_discrete}
@@ -61,6 +61,12 @@ module _ {A : Type 0} (b : Bool) (n : ℕ) (vs : List ℕ) (rest : Outcome A) wh
 -- no call gives both
 pub one_way : {A : Type 0} {a : A} {n : ℕ} {vs : List ℕ} → refused n vs ≡ result a → ⊥
 one_way e = let z : true ≡ false = cc in not_both true refl z
+
+-- a call that refuses whatever another refuses gives results only where that one does
+pub behind_refusals : {A B : Type 0} (o : Outcome A) {p : Outcome B} {b : B} → ((n : ℕ) (vs : List ℕ) → o ≡ refused n vs → p ≡ refused n vs)
+    → p ≡ result b → (a : A) × (o ≡ result a)
+behind_refusals (result a) h e = (a, refl)
+behind_refusals (refused n vs) h e = absurd (one_way (sym (h n vs refl) ∙ e))
 
 -- ---- a call after a call
 

@@ -8,6 +8,7 @@ use Rattle.std.specs.Result.{IsErrAnd}
 use Rattle.std.specs.declared.result.Result.{Result}
 use Rattle.std.specs.declared.result.Result.TheVariants.{Ok, Err}
 use Rattle.outcome.specs.Outcome.{Outcome, result, on_result, output_after}
+use Rattle.outcome.proofs.Laws.{one_way}
 use Rattle.outcome.specs.Table.{number_of, values_of, refusal, answered, Gives}
 use Rattle.outcome.specs.declared.Error.{Error}
 use Rattle.outcome.specs.declared.Error.TheVariants.{InvalidChannels, ZeroSampleRate, MisalignedInterleavedSamples, TooManySamples, TruncatedHeader, InvalidMagic, UnsupportedVersion, InvalidVariant, InvalidReservedByte, InvalidFileLength, InvalidStepIndex, NonZeroPadding, OutputTooShort, InvalidFragment, InvalidState, NotWave, RiffEnd, ChunkHeader, ChunkEnd, FormatChunk, DataChunk, NoFormat, Encoding, WaveChannels, ZeroWaveRate, ByteRate, Inconsistent, NoData, PartialFrame, WriterChannels, DataSize, RiffSize, WriterByteRate, InputSize, StrictFormat, StrictOrder, StrictEnd}
@@ -90,3 +91,14 @@ module _ {A : Type 0} {o : Outcome (List A)} {out : List A} where
   pub gives_result : (xs : List A) {n : ℕ} {output : List A} → result xs ≡ o → n ≡ length xs → output ≡ xs ++ drop n out → Gives o out (Ok n) output
   unfolding on_result output_after
   gives_result xs q l w = record { answered = rw (← q, l); output_left = w ∙ rw (← q, l) }
+
+  pub given : {xs : List A} {n : ℕ} {output : List A} → o ≡ result xs → Gives o out (Ok n) output → (n ≡ length xs) × (output ≡ xs ++ drop n out)
+  unfolding on_result output_after
+  given {xs} {n} e g =
+      let same = rw e at g.answered in
+      let count : n ≡ length xs = cc in
+      (count, g.output_left ∙ rw (e, count))
+
+  pub not_refused : {P : Type 0} {xs : List A} {e : Error} {output : List A} → o ≡ result xs → Gives o out (Err e) output → P
+  unfolding on_result
+  not_refused q g = absurd (one_way (rw q at g.answered))

@@ -8,8 +8,8 @@ use native.Mathlib.Nat.{div-one, le_refl}
 use lib.IntN.{ℤ, pos, negsuc, nat_abs, ◌-ℤ◌, ◌*ℤ◌}
 use lib.Signed.{mag, quot_z}
 use lib.ListN.{length, get_or}
-use Rattle.outcome.specs.Outcome.{Outcome, result, refused, Refuses}
-use Rattle.outcome.proofs.Laws.{one_way}
+use Rattle.outcome.specs.Outcome.{result, Refuses}
+use Rattle.outcome.proofs.Laws.{behind_refusals}
 use Rattle.signed.specs.Signed.{on_magnitude, with_sign, is_neg}
 use Rattle.sqv4_format.specs.Layout.{encoder_version, whole_frame, frames, count, stream_length, fragment_at}
 use Rattle.sqv4_format.specs.Gain.{nearest, pregained, own_volume, normalised, output_gain}
@@ -129,11 +129,7 @@ encode_at_the_limit k pcm n =
 
 -- what the decoder decodes, inspection accepts: it decodes nothing that inspection refuses
 pub decoded_is_inspected : (d : List ℕ) (room : ℕ) (x : Sound) → decode_call d room ≡ result x → (h : Header) × (inspected d ≡ result h)
-decoded_is_inspected d room x e = go (inspected d) refl
-  where
-    go : (o : Outcome Header) → inspected d ≡ o → (h : Header) × (inspected d ≡ result h)
-    go (result h) i = (h, i)
-    go (refused n vs) i = absurd (one_way (sym (claims.decode_refuses d room n vs i) ∙ e))
+decoded_is_inspected d room x = behind_refusals (inspected d) (claims.decode_refuses d room)
 
 -- ---- rounding and gain
 

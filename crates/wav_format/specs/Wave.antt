@@ -1,5 +1,5 @@
 -- Reading a WAV file, from 01 and Microsoft's RIFF/WAVE PCM format. Numbers of refusals are those of 01's table. Assumes nothing.
-use Rattle.std.specs.Prelude.{ℕ, zero, suc, ◌+◌, ◌-◌, ◌*◌, ◌%◌, Bool, ◌&&◌, ◌||◌, Option, Some, None, is_some, List, [], ltb, eqb, length, get_or, take, drop}
+use Rattle.std.specs.Prelude.{ℕ, zero, suc, ◌+◌, ◌-◌, ◌*◌, ◌%◌, Bool, ◌&&◌, ◌||◌, Option, Some, None, is_some, List, [], ltb, eqb, length, get_or}
 use Rattle.outcome.specs.Outcome.{Outcome, result, refused, refuse_if, need, branch, ◌⟫◌, and_then}
 use Rattle.digits.specs.Digits.{field}
 use Rattle.parts.specs.declared.Part.{Part}

@@ -8,8 +8,9 @@ use Rattle.wav_format.proofs.Plain.{plain}
 use Rattle.wav_format.proofs.Steps.{one_or_two_is}
 use Rattle.wav_samples.proofs.Samples.{length_samples}
 use Rattle.commands.proofs.Printing as printing
-use Rattle.commands.proofs.Printing.{gives_error, loaded, not_loaded}
-use Rattle.outcome.proofs.Table.{gives_refused}
+use Rattle.commands.proofs.Printing.{gives_error, loaded}
+use Rattle.outcome.proofs.Table.{gives_refused, not_refused}
+use Rattle.wav_format.proofs.Claims.{load_accepts}
 use Rattle.outcome.specs.declared.Error.TheVariants.{InputSize}
 use Rattle.commands.proofs.encode.Goals as goal
 use Rattle.commands.proofs.encode.Goals.{In_ok-count}
@@ -29,7 +30,7 @@ returns-in_err-wave c =
 pub returns-in_err-count : goal.returns-in_err-count
 returns-in_err-count c =
     let room = printing.part_few _ c.in-len2-up.len_at_least c.requires _ c.in_ok-try_from.ensures c.in_ok-wave.wave in
-    not_loaded _ _ _ (rw c.shown-samples.ensures room) _ (rw c.in_err-count.was at c.load_samples.ensures)
+    not_refused (load_accepts _ _ (rw c.shown-samples.ensures room)) (rw c.in_err-count.was at c.load_samples.ensures)
 
 pub overflow_cast-channels : goal.overflow_cast-channels
 overflow_cast-channels c = omega (arith, one_or_two_is _ (plain _ _ (sym c.in_ok-wave.ensures)).channels)
