@@ -23,8 +23,8 @@ use Rattle.sqv4_format.proofs.Sizes.{payload_few}
 use Rattle.parts.specs.Parts.{part_in}
 use Rattle.wav_format.specs.Wave.{read_wave, part_of}
 use Rattle.wav_format.specs.Samples.{samples_of, samples_call}
-use Rattle.outcome.specs.Table.{number_of, values_of, refusal, Gives}
-use Rattle.outcome.proofs.Table.{gives_refused, given}
+use Rattle.outcome.specs.Table.{number_of, values_of, Gives}
+use Rattle.outcome.proofs.Table.{given}
 use Rattle.wav_format.specs.declared.Wave.{Wave}
 use Rattle.outcome.specs.declared.Error.{Error}
 use Rattle.wav_format.proofs.Claims.{load_accepts}
@@ -32,10 +32,7 @@ use Rattle.wav_samples.proofs.Samples.{length_samples}
 use Rattle.io.specs.Counts.{IsPrefixLen}
 use Rattle.text.specs.Text.{written, Put}
 use Rattle.text.proofs.Laws.{put_ends}
-use Rattle.std.specs.declared.result.Result.{Result}
 use Rattle.std.specs.declared.result.Result.TheVariants.{Ok, Err}
-use Rattle.std.specs.Result.{IsErrAnd}
-use Rattle.std.proofs.lemmas.Result.{err_from_is_err_and}
 use Rattle.digits.proofs.Laws.{tail_all}
 use Rattle.commands.specs.Commands.{printed, encode_whole, encode_wave, converted, report, reported}
 use Rattle.report_lines.specs.Lines.{refusal_line}
@@ -46,9 +43,6 @@ module _ {o : Outcome (List ℕ)} {out : List ℕ} where
   pub gives_text : {text after : List ℕ} {next : ℕ} → result text ≡ o → Put out 0 text after next → Gives o out (Ok next) after
   unfolding on_result output_after written
   gives_text e p = rw (← e) (record { answered = ap result (p.place ∙ zero-add _); output_left = p.output ∙ rw zero-add refl })
-
-  pub gives_error : (e : Error) (r : Result ℕ Error) → IsErrAnd r (λ x. x ≡ e) → refusal e ≡ o → Gives o out r out
-  gives_error e r i q = let p = err_from_is_err_and r i in rw (p.1, p.2) (gives_refused e q)
 
 -- a text that is given is printed, and of what is refused its line
 module _ {out output : List ℕ} where

@@ -88,6 +88,11 @@ module _ {A : Type 0} {o : Outcome (List A)} {out : List A} where
   unfolding on_result output_after
   gives_refused e q = record { answered = rw (← q); output_left = rw (← q) }
 
+  -- a `?` passes the refusal on
+  pub gives_passed_on : (e : Error) (r : Result ℕ Error) → IsErrAnd r (λ f. f ≡ e) → refusal e ≡ o → Gives o out r out
+  gives_passed_on e (Ok a) h q = absurd h
+  gives_passed_on e (Err f) h q = rw h (gives_refused e q)
+
   pub gives_result : (xs : List A) {n : ℕ} {output : List A} → result xs ≡ o → n ≡ length xs → output ≡ xs ++ drop n out → Gives o out (Ok n) output
   unfolding on_result output_after
   gives_result xs q l w = record { answered = rw (← q, l); output_left = w ∙ rw (← q, l) }

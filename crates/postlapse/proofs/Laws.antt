@@ -2,7 +2,7 @@
 use mathlib.Core.Path.{◌≡◌, refl, sym, ◌∙◌, ap}
 use Prim.Native.Nat.{ℕ}
 use mathlib.Core.Bool.{true, false}
-use mathlib.Core.List.{List, []}
+use mathlib.Core.List.{List}
 use lib.IntN.{ℤ}
 use lib.ListN.{length}
 use Rattle.std.specs.Result.{is_ok}
@@ -19,12 +19,6 @@ use Rattle.sqv4_format.proofs.Range.{unmoved}
 use Rattle.postlapse.specs.Answers.{answer_of}
 use Rattle.postlapse.specs.Promises.{fragment_for_c, Plays, PlaysAs}
 use Rattle.postlapse.specs.declared.Answer.{Answer}
-
--- a call that refuses fills nothing
-pub fills_none : {A : Type 0} {o : Outcome (List A)} {out : List A} {n : ℕ} {vs : List ℕ} → refused n vs ≡ o
-    → (refused n vs ≡ on_result length o) × (out ≡ output_after o out)
-unfolding on_result output_after
-fills_none e = (rw (← e), rw (← e))
 
 -- ---- the fragment decoder: its promise, and whether the call changes the channel's state
 

@@ -5,7 +5,7 @@ ghost use Rattle.std.specs.Prelude.{◌≡◌, length};
 ghost use Rattle.outcome.specs.Outcome.{on_result, output_after};
 ghost use Rattle.sqv4_format.specs.Decode.{moves};
 ghost use Rattle.sqv4_format.specs.Inspect.{inspected, decode_call};
-ghost use Rattle.outcome.specs.Table.{refusal, answered};
+ghost use Rattle.outcome.specs.Table.{refusal, answered, Gives};
 ghost use Rattle.wav_format.specs.Samples.{samples_call};
 ghost use Rattle.wav_format.specs.Wave.{read_wave, read_strict};
 ghost use Rattle.wav_writer.specs.Writer.{write_call};
@@ -179,8 +179,7 @@ fn encode(
     gain: u8,
     out: &mut [u8],
 ) -> Result<usize, Error>
-    ensures { (answered result ≡ on_result length (encode_for_c byte gain pcm.now channels rate (length out.old)))
-        × (out.new ≡ output_after (encode_for_c byte gain pcm.now channels rate (length out.old)) out.old) }
+    ensures { Gives (encode_for_c byte gain pcm.now channels rate (length out.old)) out.old result out.new }
 {
     let variant = Variant::try_from(byte)?;
     encoder::encode_interleaved(pcm, channels, rate, variant, gain, out)

@@ -8,8 +8,8 @@ use Rattle.wav_format.proofs.Plain.{plain}
 use Rattle.wav_format.proofs.Steps.{one_or_two_is}
 use Rattle.wav_samples.proofs.Samples.{length_samples}
 use Rattle.commands.proofs.Printing as printing
-use Rattle.commands.proofs.Printing.{gives_error, loaded}
-use Rattle.outcome.proofs.Table.{gives_refused, not_refused}
+use Rattle.commands.proofs.Printing.{loaded}
+use Rattle.outcome.proofs.Table.{gives_refused, gives_passed_on, not_refused}
 use Rattle.wav_format.proofs.Claims.{load_accepts}
 use Rattle.outcome.specs.declared.Error.TheVariants.{InputSize}
 use Rattle.commands.proofs.encode.Goals as goal
@@ -20,11 +20,11 @@ returns-in_default c = gives_refused InputSize (printing.short_refused _ c.in_de
 
 pub returns-in_err-try_from : goal.returns-in_err-try_from
 returns-in_err-try_from c =
-    gives_error _ _ c.from_residual.ensures.1 (printing.variant_refused _ c.in-len2-up.len_at_least c.requires c.in_err-try_from.ensures)
+    gives_passed_on _ _ c.from_residual.ensures.1 (printing.variant_refused _ c.in-len2-up.len_at_least c.requires c.in_err-try_from.ensures)
 
 pub returns-in_err-wave : goal.returns-in_err-wave
 returns-in_err-wave c =
-    gives_error _ _ c.from_residual-in_err-wave.ensures.1
+    gives_passed_on _ _ c.from_residual-in_err-wave.ensures.1
     (printing.wave_refused _ c.in-len2-up.len_at_least c.requires _ c.in_ok-try_from.ensures c.in_err-wave.ensures)
 
 pub returns-in_err-count : goal.returns-in_err-count
