@@ -4,17 +4,17 @@ use mathlib.Core.Path.{◌≡◌, refl}
 use mathlib.Core.Logic.{◌⊎◌, inl, inr}
 use mathlib.Core.Bool.{Bool, true, false, cond}
 use Prim.Native.Nat.{ℕ, ◌/◌, ◌%◌, ◌^◌, ◌≤◌, ◌<◌}
+use native.Mathlib.Nat.{mul-le-mul}
 use native.Mathlib.Omega.{arith}
 use lib.Dec.{T, eqb}
 use lib.IntN.{ℤ, pos, negsuc, nat_abs}
 use lib.ListN.{get_or}
-use mir.Syntax.{w16, w32}
-use mir.Val.{SFits, to_z, of_z}
-use mir.Facts.{to_z-of_z}
+use mir.Syntax.{w32}
+use mir.Val.{to_z, of_z}
 use Rattle.lists.specs.Tables.{every, inside}
 use Rattle.lists.proofs.Tables.{at, inside_pos, inside_low, inside_high, inside-abs}
 use Rattle.signed.specs.Signed.{with_sign}
-use Rattle.signed.proofs.Laws.{nat_abs-with_sign, product_le, Read, small_read, up32, read16}
+use Rattle.signed.proofs.Laws.{nat_abs-with_sign, Read, small_read, up32}
 use Rattle.sqv4_format.specs.Tables.{steps, h_index_adjust, l_index_adjust, l_levels, l_plus_levels, legacy_l_plus_levels}
 use Rattle.sqv4_format.specs.Layout.{bits}
 use Rattle.sqv4_format.specs.Step.{step_at, bit_set, h_size, l_size, levels, level_of, difference, adjustment}
@@ -94,9 +94,9 @@ module _ (step : ℕ) (h : step ≤ 32767) where
   h_size_lem code =
       omega (arith, part_le (bit_set code 1) (step / 4), part_le (bit_set code 2) (step / 2), part_le (bit_set code 4) step)
 
-  l_size_lem : (level : ℕ) → level ≤ 14 → l_size level step ≤ 65535
+  pub l_size_lem : (level : ℕ) → level ≤ 14 → l_size level step ≤ 65535
   unfolding l_size
-  l_size_lem level k = omega (arith, product_le 14 32767 k h)
+  l_size_lem level k = omega (arith, mul-le-mul k h)
 
   pub difference_small : (version : ℕ) (variant : Variant) (code : ℕ) → nat_abs (difference version variant step code) ≤ 65535
   unfolding difference
@@ -109,10 +109,6 @@ module _ (step : ℕ) (h : step ≤ 32767) where
 pub adjustment_read : (variant : Variant) (code : ℕ) → code < 2 ^ bits variant
     → (z : ℤ) → z ≡ adjustment variant code → Read z (adjustment variant code) 9
 adjustment_read variant code h z e = small_read z (adjustment variant code) 9 e (adjustment_small variant code h) (omega arith)
-
--- a sample of 16 bits in a local of 32 bits
-pub sample_read : {z : ℤ} → SFits w16 z → to_z w32 (of_z w32 (to_z w16 (of_z w16 z))) ≡ z
-sample_read {z} h = rw (to_z-of_z h) (read16 z (omega (arith, h.sfits)))
 
 -- ---- L and L+, the variants of three bits
 

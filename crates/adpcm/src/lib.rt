@@ -97,7 +97,7 @@ fn h_size(index: StepIndex, code: u8) -> u32
 }
 
 // The size of an L or L+ code's difference.
-#[tactic(auto, using(signed::proofs::Laws::product_le), unfolding(sqv4_format::specs::Step::l_size))]
+#[tactic(auto, using(crate::proofs::Bounds::l_size_lem), unfolding(sqv4_format::specs::Step::l_size))]
 pub fn l_size(level: u32, step: u32) -> u32
     requires { (level ≤ 14) × (step ≤ 32767) }
     ensures { (result ≡ l_size level step) × (result ≤ 65535) }

@@ -6,15 +6,16 @@ use mathlib.Core.Path.{◌≡◌, sym, ap, ◌∙◌}
 use mathlib.Core.Bool.{cond}
 use mathlib.Core.List.{List}
 use lib.Arith.{digits_lt}
-use lib.Dec.{ltb, ltb→lt, nltb→le}
+use lib.Dec.{ltb}
 use lib.IntN.{ℤ, pos, negsuc, nat_abs, ◌+ℤ◌}
 use lib.ListN.{length, get_or, take, drop, length-drop}
 use lib.Pow.{pow_pos}
 use lib.Seq.{take_all, get_or-drop}
 use lib.Signed.{mag}
-use borrow.Author.Tests.{le-ltb}
+use borrow.Author.Tests.{le-ltb, ltb-true, ltb-false}
+use Rattle.std.proofs.lemmas.Bool.{cond_both}
 use Rattle.signed.specs.Signed.{clamp16, depth}
-use Rattle.signed.proofs.Laws.{cond_ind, depth_le, depth_back}
+use Rattle.signed.proofs.Laws.{depth_le, depth_back}
 use Rattle.sqv4_format.specs.Layout.{bits}
 use Rattle.sqv4_format.specs.Step.{step_at, difference, unclamped_predictor, unclamped_index, stepped}
 use Rattle.sqv4_format.specs.Decode.{InRange}
@@ -32,7 +33,7 @@ below b h = rw (le-ltb 131071 (suc b) (omega arith))
 
 -- a sum of two signs, by which of them is larger
 by_size : (a b : ℕ) (P : ℤ → Type 0) → (a < b → P (negsuc (b - suc a))) → (b ≤ a → P (pos (a - b))) → P (cond (ltb a b) (negsuc (b - suc a)) (pos (a - b)))
-by_size a b P f g = cond_ind (ltb a b) (negsuc (b - suc a)) (pos (a - b)) P (λ t. f (omega (arith, ltb→lt a b t))) (λ t. g (omega (arith, nltb→le a b t)))
+by_size a b P f g = cond_both (ltb a b) (negsuc (b - suc a)) (pos (a - b)) P (λ t. f (ltb-true a b t)) (λ t. g (ltb-false a b t))
 
 -- the depth of a sum below 0, and of one that is not, cut as `lowered` cuts it
 under : (x n : ℕ) → x ≡ 32768 - suc n → 65535 - x ≡ min n 32767 + 32768

@@ -9,7 +9,7 @@ use sqv4_format::{Coding, Reached, Variant};
 
 // How far from the input a code's clamped result lands. Variant, state and input stay three parameters, here and in `l_code`: they are
 // what the definition `code_for` takes, and each caller has them apart.
-#[tactic(auto, using(signed::proofs::Laws::read16, adpcm::proofs::Bounds::sample_read))]
+#[tactic(auto, using(signed::proofs::Laws::read16, signed::proofs::Laws::sample_read))]
 fn error_of(variant: Variant, state: Reached, input: i16, code: u8) -> u32
     ensures { result ≡ (choice variant state.state input code).error }
 {
@@ -26,7 +26,7 @@ pub fn take_off(threshold: u32, d: u32) -> u32
 }
 
 // The H code for a normalised sample. Its bits 4, 2, 1 and 8 are written in one form, that of 1 too.
-#[tactic(auto, using(signed::proofs::Laws::read16, adpcm::proofs::Bounds::sample_read), unfolding(sqv4_format::specs::Encode::h_code))]
+#[tactic(auto, using(signed::proofs::Laws::read16, signed::proofs::Laws::sample_read), unfolding(sqv4_format::specs::Encode::h_code))]
 fn h_code(state: Reached, input: i16) -> u8
     ensures { (result ≡ h_code state.state input) × (result < 16) }
 {

@@ -7,7 +7,7 @@ use native.Mathlib.Omega.{arith}
 use lib.IntN.{ℤ, pos, negsuc, nat_abs}
 use lib.ListN.{length, get_or, replicate, length-map}
 use borrow.Author.Tests.{ne_eqb}
-use Rattle.lists.proofs.ByIndex.{map_at}
+use Rattle.std.proofs.lemmas.List.{get_or-map}
 use Rattle.digits.specs.Digits.{number, digits}
 use Rattle.sqv4_format.specs.Layout.{encoder_version, payload_bytes, fragment_size}
 use Rattle.signed.specs.Signed.{is_neg, with_sign, on_magnitude}
@@ -36,7 +36,7 @@ module _ (g : ℕ) (samples : List ℤ) where
   peak_still zero l e = refl
   peak_still (suc n) l e =
       let here : nat_abs (get_or (map (pregained g) samples) n (pos 0)) ≡ 0 =
-      ap nat_abs (map_at (pregained g) samples n (pos 0) (pos 0) l) ∙ still (get_or samples n (pos 0)) (omega arith) in
+      ap nat_abs (get_or-map (pregained g) samples n (pos 0) (pos 0) l) ∙ still (get_or samples n (pos 0)) (omega arith) in
       omega (arith, peak_still n (omega arith) (omega arith), here)
 
   pub silent_volume : peak samples (length samples) ≡ 0 → own_volume (map (pregained g) samples) ≡ 0

@@ -51,6 +51,7 @@ fn codes_from(fragment: Fragment, index: u8) -> [u8; 63]
 }
 
 // A fragment's bytes that fill `out`: volume, index, and the codes packed into the rest.
+#[tactic(auto, using(crate::proofs::Front::rest_length, crate::proofs::Front::rest_put))]
 fn put_fragment(out: &mut [u8], volume: u8, index: u8, codes: Codes)
     requires { (2 ≤ length out.old) × (length out.old < 2 ^ 32) }
     ensures { out.new ≡ volume ∷ index ∷ packed codes.entry.bits (length out.old - 2) codes.entry.codes.now }
@@ -61,6 +62,7 @@ fn put_fragment(out: &mut [u8], volume: u8, index: u8, codes: Codes)
 }
 
 // The bytes of a fragment that is not silent: of the trials from 0..=88 the one with the least sum, the lowest start at equality.
+#[tactic(auto, using(sqv4_format::proofs::Trials::best_wrote, crate::proofs::Bested::best_from), unfolding(sqv4_format::specs::Encode::fragment_bytes))]
 fn put_best(fragment: Fragment, out: &mut [u8])
     requires { length out.old ≡ fragment_size encoder_version fragment.coder.now.settings.variant }
     ensures { out.new ≡ fragment_bytes fragment.entry.coder.now.settings.variant fragment.entry.volume (best_trial fragment.entry.coder.now.settings fragment.entry.volume fragment.entry.xs.now) }

@@ -7,8 +7,9 @@ use native.Mathlib.Omega.{arith}
 use lib.IntN.{ℤ, pos, nat_abs, ◌-ℤ◌}
 use lib.ListN.{length, get_or, set, take, length-set}
 use lib.Seq.{get_or-take}
+use Rattle.std.proofs.lemmas.List.{get_or-map}
 use Rattle.lists.specs.Lists.{tabulate}
-use Rattle.lists.proofs.ByIndex.{get_d_tabulate, fill_next, map_at}
+use Rattle.lists.proofs.ByIndex.{get_d_tabulate, Filled, filled_none, filled_more}
 use mir.Syntax.{w16, w32}
 use mir.Val.{SFits, to_z, of_z}
 use Rattle.signed.proofs.Laws.{back16, read16}
@@ -16,7 +17,7 @@ use Rattle.signed.proofs.Raised.{raised-same}
 use Rattle.sqv4_format.specs.Layout.{encoder_version}
 use Rattle.sqv4_format.specs.Step.{stepped}
 use Rattle.sqv4_format.specs.Gain.{output_gain}
-use Rattle.sqv4_format.specs.Decode.{InRange}
+use Rattle.sqv4_format.specs.Decode.{fragment_start, InRange}
 use Rattle.sqv4_format.specs.Encode.{target, square, code_for, trial_step, trial_to}
 use Rattle.sqv4_format.specs.declared.Settings.{Settings}
 use Rattle.sqv4_format.specs.declared.State.{State}
@@ -24,7 +25,7 @@ use Rattle.sqv4_format.proofs.Range.{start_range, stepped_range}
 use Rattle.encoder_search.specs.Search.{key, mark_of, marks_of, Ran, equal_wins, Beaten}
 use Rattle.encoder_search.specs.declared.Mark.{Mark}
 use Rattle.encoder_search.specs.declared.Best.{Best}
-use Rattle.encoder_search.proofs.Summed.{Summed, summed_more, over_limit}
+use Rattle.encoder_search.proofs.Summed.{Summed, summed_none, summed_more, over_limit}
 
 -- ---- a state and its key
 
@@ -55,23 +56,15 @@ module _ (k : Settings) (v : ℕ) (xs : List ℤ) where
 
   pub record Traced (index i : ℕ) (s : State) (sum : ℕ) (trace : List Mark) : Type 0 where
     pub summed : Summed k v xs index i s sum
-    pub long : length trace ≡ 63
-    pub marked : take i trace ≡ marks_of k v xs index i
+    pub marked : Filled (λ i. mark_of (trial_to k v xs index i)) 63 i trace
 
   module _ {index : ℕ} where
-    pub traced_none : {s : State} {trace : List Mark} → Summed k v xs index 0 s 0 → length trace ≡ 63 → Traced index 0 s 0 trace
-    unfolding marks_of tabulate
-    traced_none d h = record { summed = d; long = h; marked = refl }
+    pub traced_none : {s : State} {trace : List Mark} → s ≡ fragment_start index → length trace ≡ 63 → Traced index 0 s 0 trace
+    traced_none e h = record { summed = summed_none k v xs index e; marked = filled_none _ _ h }
 
     pub traced_more : {i : ℕ} {s t : State} {sum sum' key' : ℕ} {trace : List Mark} → Traced index i s sum trace → i < 63 → key' ≡ key s
         → Summed k v xs index (i + 1) t sum' → Traced index (i + 1) t sum' (set trace i (record { sum = sum; key = key' }))
-    unfolding marks_of
-    traced_more {i} {s} {t} {sum} {sum'} {key'} {trace} d h e m =
-        record {
-          summed = m;
-          long = rw length-set d.long;
-          marked = fill_next (λ i. mark_of (trial_to k v xs index i)) trace i (record { sum = sum; key = key' }) (omega (arith, d.long)) d.marked (rw (e, d.summed.state, d.summed.total));
-        }
+    traced_more d h e m = record { summed = m; marked = filled_more _ _ d.marked h (rw (e, d.summed.state, d.summed.total)) }
 
     -- a sample more, toward its target, as the loop reads them
     pub traced_next : {i : ℕ} {s t : State} {sum q key' : ℕ} {trace : List Mark} {targets : List ℤ} → Traced index i s sum trace
@@ -80,7 +73,7 @@ module _ (k : Settings) (v : ℕ) (xs : List ℤ) where
         → q ≡ square (nat_abs (to_z w16 (of_z w16 (get_or xs i (pos 0))) -ℤ output_gain encoder_version v (to_z w32 (of_z w32 t.predictor))))
         → q ≤ 4294967296 → Traced index (i + 1) t (sum + q) (set trace i (record { sum = sum; key = key' }))
     traced_next {i} {targets = targets} d h few et ft fx r ek es eq hq =
-        let y : get_or targets i (pos 0) ≡ target k v (get_or xs i (pos 0)) = rw et (map_at (target k v) xs i (pos 0) (pos 0) h) in
+        let y : get_or targets i (pos 0) ≡ target k v (get_or xs i (pos 0)) = rw et (get_or-map (target k v) xs i (pos 0) (pos 0) h) in
         traced_more d (omega arith) ek
         (summed_more k v xs index d.summed h refl y (rw (back16 _ ft.sfits) at es) (rw (back16 _ fx.sfits, read16 _ r.predictor) at eq) hq)
 
@@ -92,7 +85,6 @@ module _ (k : Settings) (v : ℕ) (xs : List ℤ) where
   -- ---- the marks of the best trial
 
   mark_at : {b : Best} (d : Mark) → Ran k v xs b → (i : ℕ) → i < length xs → get_or b.marks i d ≡ mark_of (trial_to k v xs b.found.index i)
-  unfolding marks_of
   mark_at {b} d r i h =
       sym (get_or-take (length xs) b.marks i d h)
       ∙ ap (λ (l : List Mark). get_or l i d) r.marked

@@ -16,7 +16,7 @@ abbrev pub mark_of : Trial → Mark
 mark_of t = record { sum = t.sum; key = key t.state }
 
 -- the marks of the trial from a start index, before each sample
-unfoldable pub marks_of : Settings → ℕ → List ℤ → ℕ → ℕ → List Mark
+abbrev pub marks_of : Settings → ℕ → List ℤ → ℕ → ℕ → List Mark
 marks_of k v xs index n = tabulate (λ i. mark_of (trial_to k v xs index i)) n
 
 -- a trial from its start index, run to its end

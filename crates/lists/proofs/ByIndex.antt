@@ -5,7 +5,7 @@ use native.Mathlib.Omega.{arith}
 use native.Mathlib.Nat.{mul-le-mul_right, le_of_eq}
 use native.Mathlib.Numerals.{add-one}
 use native.Mathlib.Decide.{dec_lt}
-use mathlib.Core.List.{List, [], ◌∷◌, ◌++◌, map}
+use mathlib.Core.List.{List, [], ◌∷◌, ◌++◌}
 use lib.ListN.{length, get_or, take, drop, set, length-append, length-take, length-drop, length-set, get_or-append}
 use lib.Seq.{take-suc-set, drop_at, get_or_at, take_all, take-append-le, drop-append-le, ext_get_or, get_or-take, get_or-drop}
 use Rattle.lists.specs.Lists.{tabulate, joined}
@@ -98,14 +98,6 @@ module _ {A : Type 0} where
           ∙ get_or-drop k (tabulate g n) i d
           ∙ get_d_tabulate g n (k + i) d (omega arith)
           ∙ sym (get_d_tabulate (λ w. g (k + w)) (min m (n - k)) i d h)
-
--- ---- map
-
-module _ {A B : Type 0} (f : A → B) where
-  pub map_at : (xs : List A) (i : ℕ) (d : A) (e : B) → i < length xs → get_or (map f xs) i e ≡ f (get_or xs i d)
-  map_at [] i d e h = let z : ⊥ = omega arith in absurd z
-  map_at (x ∷ xs) zero d e h = refl
-  map_at (x ∷ xs) (suc i) d e h = map_at xs i d e (omega arith)
 
 -- ---- a loop that fills an array of n places: the first i of them are g's
 

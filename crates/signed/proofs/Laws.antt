@@ -1,14 +1,14 @@
 -- The laws of signed numbers: they turn a test or a bound on ℤ into a fact on ℕ, which omega reads. Assumes nothing.
 use mathlib.Core.Path.{◌≡◌, refl}
-use mathlib.Core.Bool.{Bool, true, false, not, cond}
-use lib.Dec.{T}
-use native.Mathlib.Nat.{zero-div, le_trans, mul-le-mul_left, mul-le-mul_right}
+use mathlib.Core.Bool.{Bool, true, false}
+use native.Mathlib.Nat.{zero-div}
 use Prim.Native.Nat.{ℕ, zero, suc, ◌*◌, ◌/◌, ◌<◌, ◌≤◌, ◌^◌, min}
 use native.Mathlib.Omega.{arith}
 use lib.IntN.{ℤ, pos, negsuc, neg_ℤ, nat_abs, ◌-ℤ◌, ◌*ℤ◌}
 use lib.Signed.{mag, lt_z, quot_z}
 use mir.Syntax.{w16, w32}
-use mir.Val.{to_z, of_z}
+use mir.Val.{SFits, to_z, of_z}
+use mir.Facts.{to_z-of_z}
 use Rattle.std.specs.Int.{int_min, int_max, saturate_unsigned}
 use Rattle.std.proofs.lemmas.Int.{ints, clamps}
 use Rattle.signed.specs.Signed.{is_neg, with_sign, on_magnitude, clamp16, clamp_to, depth}
@@ -20,17 +20,9 @@ is_neg_is (pos n) = grind (arith, ints)
 is_neg_is (negsuc n) = refl
 
 -- ---- bounds
-pub product_le : (m n : ℕ) {a b : ℕ} → a ≤ m → b ≤ n → a * b ≤ m * n
-product_le m n {a} {b} h k = le_trans (mul-le-mul_right b h) (mul-le-mul_left m k)
-
 mag_le : (z : ℤ) → mag z ≤ nat_abs z
 mag_le (pos n) = omega arith
 mag_le (negsuc n) = omega arith
-
--- what holds of both branches holds of the choice
-pub cond_ind : {A : Type 0} (c : Bool) (x y : A) (P : A → Type 0) → (T c → P x) → (T (not c) → P y) → P (cond c x y)
-cond_ind true x y P f g = f tt
-cond_ind false x y P f g = g tt
 
 -- ---- what a local of a signed type holds is read back: of a parameter x, `to_z-of_z c.fits.x`; of a call's result, `back32 c.f.result c.f.ok`
 pub back32 : (z : ℤ) → mag z < 2 ^ 31 → to_z w32 (of_z w32 z) ≡ z
@@ -42,6 +34,9 @@ back16 z h = omega (arith, ints)
 -- of a number of 16 bits in a local of 32
 pub read16 : (z : ℤ) → mag z ≤ 32767 → to_z w32 (of_z w32 z) ≡ z
 read16 z h = omega (arith, ints)
+
+pub sample_read : {z : ℤ} → SFits w16 z → to_z w32 (of_z w32 (to_z w16 (of_z w16 z))) ≡ z
+sample_read {z} h = rw (to_z-of_z h) (read16 z (omega (arith, h.sfits)))
 
 -- of a cast from an unsigned type
 pub up32 : (n : ℕ) → n < 2 ^ 31 → to_z w32 n ≡ pos n

@@ -8,6 +8,7 @@ use native.Mathlib.Nat.{mul-le-mul_left, mul-le-mul_right, le-div_iff_mul-le, di
 use lib.Dec.{eqb}
 use borrow.Author.Tests.{eqb-true}
 use lib.ListN.{length, length-take, length-drop}
+use Rattle.std.specs.Int.{div_ceil}
 use Rattle.outcome.proofs.Flags.{either_elim, one_or_two_lem}
 use Rattle.sqv4_format.specs.Layout.{anew, channels_fit, bits, payload_bytes, header_bytes, rounded_up, whole_frame, frames, count, size_in, stream_length, fragment_at_place}
 use Rattle.sqv4_format.specs.declared.Variant.{Variant}
@@ -24,6 +25,12 @@ pub payload_few : (v : Variant) → (24 ≤ payload_bytes v) × (payload_bytes v
 payload_few H = (omega arith, omega arith)
 payload_few L = (omega arith, omega arith)
 payload_few LPlus = (omega arith, omega arith)
+
+-- 63 codes rounded up to whole bytes
+pub payload_rounded : (v : Variant) → div_ceil (63 * bits v) 8 ≡ payload_bytes v
+payload_rounded H = refl
+payload_rounded L = refl
+payload_rounded LPlus = refl
 
 pub length-header : (h : Header) → length (header_bytes h) ≡ 16
 unfolding header_bytes digits

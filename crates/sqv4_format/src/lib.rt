@@ -43,6 +43,7 @@ impl Variant {
     }
 
     // Bytes of a fragment's packed codes: 63 codes rounded up to whole bytes, which 64 codes fill.
+    #[tactic(auto, using(crate::proofs::Sizes::payload_rounded))]
     pub fn payload_bytes(self) -> usize
         ensures { result ≡ payload_bytes self }
     {
@@ -123,7 +124,9 @@ impl Coding {
 
     // Samples per channel of a whole frame.
     pub fn frame_samples(self) -> usize
-        ensures { (result ≡ frame_samples self.version) × (63 ≤ result) × (result ≤ 64) }
+        ensures value { result ≡ frame_samples self.version }
+        ensures low { 63 ≤ result }
+        ensures high { result ≤ 64 }
     {
         if self.starts_anew() {
             Variant::FRAGMENT_SAMPLES
@@ -134,7 +137,9 @@ impl Coding {
 
     // Bytes of a fragment before its codes.
     pub fn prefix_size(self) -> usize
-        ensures { (result ≡ prefix self.version) × (1 ≤ result) × (result ≤ 2) }
+        ensures value { result ≡ prefix self.version }
+        ensures low { 1 ≤ result }
+        ensures high { result ≤ 2 }
     {
         if self.starts_anew() {
             Variant::FRAGMENT_PREFIX
@@ -145,7 +150,9 @@ impl Coding {
 
     // Bytes of a fragment.
     pub fn fragment_size(self) -> usize
-        ensures { (result ≡ fragment_size self.version self.variant) × (25 ≤ result) × (result ≤ 34) }
+        ensures value { result ≡ fragment_size self.version self.variant }
+        ensures low { 25 ≤ result }
+        ensures high { result ≤ 34 }
     {
         self.prefix_size() + self.variant.payload_bytes()
     }

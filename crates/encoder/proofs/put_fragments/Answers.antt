@@ -13,12 +13,12 @@ use Rattle.encoder.proofs.put_fragments.Goals as goal
 use Rattle.encoder.proofs.put_fragments.Goals.{In-loop-p, After-samples, After-start-at}
 
 size : (c : In-loop-p) → c.fragment_size-size.result ≡ fragment_size encoder_version c.args.coder.now.settings.variant
-size c = rw (c.fragment_size-size.ensures.0, c.coding.ensures) (written_size _ _ _ _ _ c.requires.1)
+size c = rw (c.fragment_size-size.ensures.value, c.coding.ensures) (written_size _ _ _ _ _ c.requires.1)
 
 -- the bytes of this turn's fragment lie in the output
 here : (c : After-start-at) → c.start-at.result + c.fragment_size-size.result ≤ length c.args.out.now
 here c =
-    let same : c.fragment_size-size.result ≡ size_in c.args.h = rw (c.fragment_size-size.ensures.0, c.coding.ensures) refl in
+    let same : c.fragment_size-size.result ≡ size_in c.args.h = rw (c.fragment_size-size.ensures.value, c.coding.ensures) refl in
     rw same (le_trans c.start-at.ensures.1 c.requires.2)
 
 -- this turn's samples

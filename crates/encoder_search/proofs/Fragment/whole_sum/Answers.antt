@@ -1,12 +1,11 @@
 -- `encoder_search::Fragment::whole_sum` meets its contract. Assumes nothing.
 use native.Mathlib.Omega.{arith}
 use borrow.Author.Rules.{rules}
-use Rattle.encoder_search.proofs.Summed.{summed_none}
 use Rattle.encoder_search.proofs.Meeting.{traced_none, traced_next}
 use Rattle.encoder_search.proofs.Fragment.whole_sum.Goals as goal
 
 pub loop-i-init : goal.loop-i-init
-loop-i-init c = traced_none _ _ _ (summed_none _ _ _ _ c.fragment_start-state.ensures) c.told-trace
+loop-i-init c = traced_none _ _ _ c.fragment_start-state.ensures c.told-trace
 
 pub loop-i-preserved : goal.loop-i-preserved
 loop-i-preserved c =

@@ -1,12 +1,11 @@
 -- `encoder_search::Fragment::winning_sum` meets its contract. Assumes nothing.
 use native.Mathlib.Omega.{arith}
 use borrow.Author.Rules.{rules}
-use Rattle.encoder_search.proofs.Summed.{summed_none}
 use Rattle.encoder_search.proofs.Meeting.{traced_none, traced_next, stopped}
 use Rattle.encoder_search.proofs.Fragment.winning_sum.Goals as goal
 
 pub loop-i-init : goal.loop-i-init
-loop-i-init c = traced_none _ _ _ (summed_none _ _ _ _ c.fragment_start-state.ensures) c.told-trace
+loop-i-init c = traced_none _ _ _ c.fragment_start-state.ensures c.told-trace
 
 pub returns-then-limit-sum : goal.returns-then-limit-sum
 returns-then-limit-sum c = stopped _ _ _ c.loop-i.invariant (omega (arith, c.if-limit-sum.true, c.equal_wins-equal_wins.ensures))

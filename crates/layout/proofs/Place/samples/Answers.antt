@@ -11,9 +11,9 @@ returns-then-self-header c =
     let h = place.header in
     let all = count_at_place h place.p place.within in
     let more = rw c.fragment_count-fragments.ensures.0 at c.if-self-header.true in
-    let whole : c.frame_samples.result ≡ whole_frame h = rw (c.frame_samples.ensures.0, c.coding.ensures) in
+    let whole : c.frame_samples.result ≡ whole_frame h = rw (c.frame_samples.ensures.value, c.coding.ensures) in
     let is = whole ∙ (rw (lt-ltb _ _ more) at all) in
-    (is, c.frame_samples.ensures.2, rw is (frame_end h place.p place.within))
+    (is, c.frame_samples.ensures.high, rw is (frame_end h place.p place.within))
 
 pub returns-else-self-header : goal.returns-else-self-header
 returns-else-self-header c =
