@@ -30,10 +30,11 @@ use Rattle.outcome.specs.declared.Error.{Error}
 use Rattle.wav_format.proofs.Claims.{load_accepts}
 use Rattle.wav_samples.proofs.Samples.{length_samples}
 use Rattle.io.specs.Counts.{IsPrefixLen}
-use Rattle.text.specs.Text.{written, Put}
+use Rattle.lists.specs.Lists.{written}
+use Rattle.text.specs.Text.{Put}
 use Rattle.text.proofs.Laws.{put_ends}
 use Rattle.std.specs.declared.result.Result.TheVariants.{Ok, Err}
-use Rattle.digits.proofs.Laws.{tail_all}
+use Rattle.lists.proofs.Parts.{tail_all}
 use Rattle.commands.specs.Commands.{printed, encode_whole, encode_wave, converted, report, reported}
 use Rattle.report_lines.specs.Lines.{refusal_line}
 

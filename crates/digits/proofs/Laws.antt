@@ -1,17 +1,16 @@
 -- The laws of numbers and their digits, of packed codes and of stored numbers, once for every width. Assumes nothing.
 use mathlib.Core.Path.{◌≡◌, refl, sym, ap, ap₂, ◌∙◌}
-use mathlib.Core.List.{List, [], ◌∷◌, ◌++◌, append_assoc, append-nil}
+use mathlib.Core.List.{List, [], ◌∷◌, ◌++◌}
 use mathlib.Core.Bool.{true, false}
-use Prim.Native.Nat.{ℕ, zero, suc, ◌+◌, ◌-◌, ◌*◌, ◌/◌, ◌%◌, ◌^◌, ◌≤◌, ◌<◌, suc-le-suc}
-use native.Mathlib.Nat.{add-zero, add_comm, mul_comm, mul-zero, mul-suc, div-one, zero-div, zero-mod, div-eq_of_lt, mod-eq_of_lt, mod-lt, mod-one, lt_of_lt_of_le, div-lt_iff_lt-mul, one-mul, zero-lt-suc, add-sub_cancel_left, not-suc-le-zero, le_of_suc-le-suc, le_of_eq}
+use Prim.Native.Nat.{ℕ, zero, suc, ◌+◌, ◌*◌, ◌/◌, ◌%◌, ◌^◌, ◌≤◌, ◌<◌, suc-le-suc}
+use native.Mathlib.Nat.{add-zero, add_comm, mul_comm, mul-zero, mul-suc, div-one, zero-div, zero-mod, div-eq_of_lt, mod-eq_of_lt, mod-lt, mod-one, lt_of_lt_of_le, div-lt_iff_lt-mul, one-mul, zero-lt-suc, not-suc-le-zero, le_of_suc-le-suc}
 use native.Mathlib.Omega.{arith}
 use borrow.Author.Tests.{eq-eqb, eqb-true, ne_eqb}
-use lib.ListN.{length, get_or, take, drop, length-drop, drop_of_length-le}
-use lib.Seq.{drop-nil, take-nil, drop-cons, get_or-drop, drop-drop, drop_at, take_at, take_all, length-take-le}
-use lib.Pow.{pow_pos, pow-add, pow_mono, shr-shr, mod-pow-add, mod-mod-pow}
-use lib.Pow as pow
+use lib.ListN.{length, get_or, take, drop, length-drop}
+use lib.Seq.{drop-nil, take-nil, drop-cons, get_or-drop, length-take-le}
+use lib.Pow.{pow_pos, pow-add, pow_mono, shr-shr, mod-pow-add}
 use lib.Arith.{digits_lt, digits_div, digits_mod}
-use Rattle.digits.specs.Digits.{number, digits, bits_at, stored, field, packed, unpacked, code_at, rest_zero}
+use Rattle.digits.specs.Digits.{number, digits, bits_at, field, packed, unpacked, code_at, rest_zero}
 
 -- every digit fits w bits
 abbrev pub Small : ℕ → List ℕ → Type 0
@@ -227,21 +226,3 @@ pub field_lt : (n at : ℕ) (bytes : List ℕ) → Small 8 bytes → at + n ≤ 
 field_lt n at bytes small h =
     let len : length (take n (drop at bytes)) ≡ n = length-take-le n (drop at bytes) (simp length-drop (omega arith)) in
     rw len at (number_lt 8 (take n (drop at bytes)) (small_take 8 n (drop at bytes) (λ i l. small_drop 8 bytes small at i)))
-
--- ---- a part of a list that was lent, and the list when the part is back
-
--- the part from `at` to `at + len`, whose length a lent part has as its end less its start
-module _ (at len : ℕ) (l : List ℕ) where
-  pub part_put : {v w : List ℕ} → v ≡ w → take at l ++ (v ++ drop (at + len - at) (drop at l)) ≡ take at l ++ w ++ drop (at + len) l
-  part_put {v} {w} e = rw (add-sub_cancel_left at len, drop-drop len at l, e) (sym (append_assoc (take at l) w (drop (at + len) l)))
-
--- the part from `at` to the end
-module _ (at : ℕ) (l : List ℕ) where
-  pub tail_all : take (length l - at) (drop at l) ≡ drop at l
-  tail_all = take_all (length l - at) (drop at l) (le_of_eq (length-drop at l))
-
-  pub tail_length : length (take (length l - at) (drop at l)) ≡ length l - at
-  tail_length = ap length tail_all ∙ length-drop at l
-
-  pub tail_put : {v w : List ℕ} → v ≡ w → take at l ++ (v ++ drop (length l - at) (drop at l)) ≡ take at l ++ w
-  tail_put {v} {w} e = rw (drop_of_length-le (drop at l) (le_of_eq (length-drop at l)), append-nil, e)

@@ -93,7 +93,7 @@ pub fn le<const N: usize>(s: &[u8], at: usize) -> u64
 }
 
 // The low N bytes of `x`, little-endian, in the N bytes from `at` on; the rest stays. One for every width, as `le`.
-#[tactic(auto, using(crate::proofs::Laws::part_put, crate::proofs::StdBytes::low_digits))]
+#[tactic(auto, using(lists::proofs::Parts::part_put, crate::proofs::StdBytes::low_digits))]
 pub fn put_le<const N: usize>(out: &mut [u8], at: usize, x: u64)
     requires { (N ≤ 8) × (at + N ≤ length out.old) }
     ensures { out.new ≡ take at out.old ++ stored N x ++ drop (at + N) out.old }

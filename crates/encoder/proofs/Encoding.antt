@@ -2,23 +2,23 @@
 use mathlib.Core.Path.{◌≡◌, refl, sym, ◌∙◌, ap}
 use mathlib.Core.Bool.{true}
 use mathlib.Core.List.{List, [], ◌∷◌, ◌++◌}
-use Prim.Native.Nat.{ℕ, ◌+◌, ◌*◌, ◌/◌, ◌%◌, ◌≤◌, ◌<◌}
+use Prim.Native.Nat.{ℕ, ◌*◌, ◌/◌, ◌%◌, ◌≤◌, ◌<◌}
 use borrow.Author.Tests.{lt-ltb, le-ltb, eq-eqb, ne_eqb}
 use lib.Dec.{ltb}
 use lib.IntN.{ℤ}
 use native.Mathlib.Omega.{arith}
-use lib.ListN.{length, take, drop, length-append, length-drop}
-use lib.Seq.{take_at, drop_at, drop-drop}
+use lib.ListN.{length, drop, length-append, length-drop}
 use Rattle.std.specs.declared.result.Result.TheVariants.{Ok}
 use Rattle.outcome.specs.Outcome.{Outcome, result, refuse_if}
 use Rattle.outcome.proofs.Laws.{met, clear, pass}
 use Rattle.outcome.proofs.Table.{gives_result}
-use Rattle.sqv4_format.specs.Layout.{encoder_version, channels_fit, fragment_size, header_bytes, frames, stream_length}
+use Rattle.sqv4_format.specs.Layout.{encoder_version, channels_fit, header_bytes, frames, stream_length}
 use Rattle.sqv4_format.specs.Encode.{header_written, fragment_for, encoded, too_many, encode_call}
 use Rattle.outcome.specs.Table.{refusal, Gives}
 use Rattle.sqv4_format.proofs.Sizes.{length-header}
 use Rattle.sqv4_format.proofs.Encoder.{length_encoded}
-use Rattle.encoder.specs.Loops.{put_after}
+use Rattle.lists.specs.Lists.{joined, written}
+use Rattle.lists.proofs.Parts.{written_front, then_written}
 use Rattle.sqv4_format.specs.declared.Header.{Header}
 use Rattle.sqv4_format.specs.declared.Settings.{Settings}
 use Rattle.outcome.specs.declared.Error.TheVariants as Errors
@@ -27,19 +27,17 @@ module _ (k : Settings) (pcm : List ℤ) (channels rate : ℕ) (out : List ℕ) 
   -- the header is written, and the fragments behind it
   pub as_written : (n : ℕ) (h : Header) (headed r : List ℕ) → result (encoded k pcm channels rate) ≡ encode_call k pcm channels rate (length out)
       → h ≡ header_written k pcm channels rate → n ≡ stream_length h → headed ≡ header_bytes h ++ drop 16 out
-      → r ≡ put_after (take 16 headed) 16 (fragment_for k pcm channels) (fragment_size encoder_version k.variant) headed (frames (header_written k pcm channels rate) * channels)
+      → r ≡ written headed 16 (joined (fragment_for k pcm channels) (frames (header_written k pcm channels rate) * channels))
       → Gives (encode_call k pcm channels rate (length out)) out (Ok n) r
-  unfolding put_after encoded
+  unfolding encoded
   as_written n h headed r q eh en ed er =
-      let w : Header = header_written k pcm channels rate in
-      let tail : ℕ = frames w * channels * fragment_size encoder_version k.variant in
-      let all = encoded k pcm channels rate in
-      let front : take 16 headed ≡ header_bytes w = ap (take 16) ed ∙ take_at (header_bytes h) (drop 16 out) 16 (length-header h) ∙ ap header_bytes eh in
-      let rest : drop (16 + tail) headed ≡ drop (16 + tail) out =
-      sym (drop-drop tail 16 headed) ∙ ap (λ l. drop tail (drop 16 l)) ed ∙ ap (drop tail) (drop_at (header_bytes h) (drop 16 out) 16 (length-header h)) ∙ drop-drop tail 16 out in
-      let long : length all ≡ 16 + tail = unfold header_written in (length_encoded k pcm channels rate) in
-      let count : n ≡ length all = en ∙ ap stream_length eh ∙ sym (length_encoded k pcm channels rate) in
-      gives_result all q count (er ∙ rw (front, rest) (ap (λ m. all ++ drop m out) (sym (count ∙ long))))
+      let header = header_bytes h in
+      let fragments = joined (fragment_for k pcm channels) (frames (header_written k pcm channels rate) * channels) in
+      let count : n ≡ length (encoded k pcm channels rate) = en ∙ ap stream_length eh ∙ sym (length_encoded k pcm channels rate) in
+      let front : headed ≡ written out 0 header = ed ∙ sym (written_front out header ∙ rw length-header refl) in
+      let whole : r ≡ written out 0 (header ++ fragments) =
+      er ∙ rw front (ap (λ m. written (written out 0 header) m fragments) (omega (arith, length-header h)) ∙ then_written out 0 (omega arith) header fragments) in
+      gives_result _ q count (whole ∙ rw eh (written_front out _) ∙ ap (λ m. encoded k pcm channels rate ++ drop m out) (sym count))
 
 -- the first four checks have passed: the output's room decides
 module _ (k : Settings) (pcm : List ℤ) (channels rate room : ℕ) (fit : channels_fit encoder_version channels ≡ true) (some : (rate ≡ 0 → ⊥))

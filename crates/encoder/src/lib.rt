@@ -2,11 +2,10 @@
 #![tactic(auto)]
 
 ghost use Rattle.std.specs.Prelude.{◌≡◌, ◌++◌, ◌+◌, ◌-◌, ◌*◌, ◌/◌, ◌<◌, ◌≤◌, pos, length, take, drop, get_or};
-ghost use Rattle.lists.specs.Lists.{tabulate};
+ghost use Rattle.lists.specs.Lists.{joined, written};
 ghost use Rattle.outcome.specs.Table.{Gives};
 ghost use Rattle.sqv4_format.specs.Layout.{encoder_version, fragment_size, header_bytes, frames, stream_length};
 ghost use Rattle.sqv4_format.specs.Encode.{fragment_for, header_written, encode_call};
-ghost use Rattle.encoder.specs.Loops.{put_after};
 
 use encoder_step::Coder;
 use layout::Place;
@@ -53,7 +52,7 @@ fn put_header(out: &mut [u8], h: Header)
 fn put_fragments(coder: &Coder, pcm: &[i16], h: Header, out: &mut [u8])
     requires { (0 < h.channels) × (h ≡ header_written coder.now.settings pcm.now h.channels h.rate)
         × (stream_length h ≤ length out.old) }
-    ensures { out.new ≡ put_after (take 16 out.old) 16 (fragment_for coder.now.settings pcm.now h.channels) (fragment_size encoder_version coder.now.settings.variant) out.old (frames h * h.channels) }
+    ensures { out.new ≡ written out.old 16 (joined (fragment_for coder.now.settings pcm.now h.channels) (frames h * h.channels)) }
 {
     let channels = h.channels as usize;
     let size = h.coding().fragment_size();

@@ -4,7 +4,7 @@ use mathlib.Core.List.{List, [], ◌∷◌, ◌++◌}
 use Prim.Native.Nat.{ℕ, ◌-◌, ◌≤◌}
 use native.Mathlib.Omega.{arith}
 use lib.ListN.{length, take, drop, set, length-set}
-use Rattle.digits.proofs.Laws.{tail_length, tail_put}
+use Rattle.lists.proofs.Parts.{tail_length, tail_put}
 
 front : (l : List ℕ) (v i : ℕ) → 2 ≤ length l → take 2 (set (set l 0 v) 1 i) ≡ v ∷ i ∷ []
 front [] v i h = let z : ⊥ = omega arith in absurd z

@@ -1,4 +1,5 @@
 pub mod ByIndex
+pub mod Parts
 pub mod Tables
 pub mod Tests
 pub mod Least

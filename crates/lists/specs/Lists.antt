@@ -1,5 +1,5 @@
--- Lists by index, and the least of a numbered family. Assumes nothing.
-use Rattle.std.specs.Prelude.{ℕ, zero, suc, cond, List, [], ◌∷◌, ◌++◌, ltb}
+-- Lists by index, a list written into another, and the least of a numbered family. Assumes nothing.
+use Rattle.std.specs.Prelude.{ℕ, zero, suc, ◌+◌, cond, List, [], ◌∷◌, ◌++◌, ltb, length, take, drop}
 
 -- f 0, f 1, .., f (n − 1)
 unfoldable pub tabulate {ℓ} : {A : Type ℓ} → (ℕ → A) → ℕ → List A
@@ -10,6 +10,10 @@ tabulate f (suc n) = tabulate f n ++ (f n ∷ [])
 unfoldable pub joined {ℓ} : {A : Type ℓ} → (ℕ → List A) → ℕ → List A
 joined f zero = []
 joined f (suc n) = joined f n ++ f n
+
+-- an output with a list from a place on: the places before and behind it don't change
+unfoldable pub written : {A : Type 0} → List A → ℕ → List A → List A
+written out at xs = (take at out ++ xs) ++ drop (at + length xs) out
 
 -- of f 0, f 1, .., f n the one that costs least; the first of them where several do
 unfoldable pub least : {A : Type 0} → (A → ℕ) → (ℕ → A) → ℕ → A

@@ -1,16 +1,17 @@
 -- Decimal numbers by their digits, and texts that are put one behind the other. Assumes nothing.
 use mathlib.Core.Path.{◌≡◌, refl, sym, ap, ◌∙◌}
-use mathlib.Core.List.{List, [], ◌∷◌, ◌++◌, append_assoc, append-nil}
+use mathlib.Core.List.{List, [], ◌∷◌, ◌++◌}
 use Prim.Native.Nat.{ℕ, zero, suc, ◌+◌, ◌-◌, ◌/◌, ◌%◌, ◌^◌, ◌≤◌, ◌<◌, min}
-use native.Mathlib.Nat.{sub-zero, zero-sub, add-zero, add_assoc, pow-suc}
+use native.Mathlib.Nat.{sub-zero, zero-sub, add-zero, pow-suc}
 use native.Mathlib.Omega.{arith}
-use lib.ListN.{length, take, drop, length-append, length-take, length-drop, take-append-drop}
-use lib.Seq.{take_at, drop-drop, drop-append-add, length-take-le, take-nil, take_all}
+use lib.ListN.{length, take, drop, length-append, length-take, length-drop}
+use lib.Seq.{length-take-le, take-nil, take_all}
 use Rattle.std.proofs.lemmas.List.{take_min}
-use Rattle.digits.proofs.Laws.{part_put}
+use Rattle.lists.proofs.Parts.{part_put, written_none, then_written}
 use Rattle.std.specs.Fmt as std
 use Rattle.std.proofs.lemmas.Fmt.{decimal_from_appends, length-decimal-le}
-use Rattle.text.specs.Text.{letters, digits_of, decimal, written, Put}
+use Rattle.lists.specs.Lists.{written}
+use Rattle.text.specs.Text.{letters, digits_of, decimal, Put}
 use Rattle.text.specs.Printer.{Printed}
 use Rattle.text.specs.declared.Printer.{Printer}
 
@@ -73,27 +74,14 @@ unfolding written
 put_ends p e = omega (arith, p.place, simp (length-append, length-drop) at (ap length p.output))
 
 module _ (out : List ℕ) (at : ℕ) (h : at ≤ length out) where
-  front : (x : List ℕ) → length (take at out ++ x) ≡ at + length x
-  front x = length-append (take at out) x ∙ ap (λ (n : ℕ). n + length x) (length-take-le at out h)
-
-  then_written : (x y : List ℕ) → written (written out at x) (at + length x) y ≡ written out at (x ++ y)
-  unfolding written
-  then_written x y =
-      let before = take at out ++ x in
-      let rest = drop (at + length x) out in
-      let later : drop ((at + length x) + length y) (before ++ rest) ≡ drop ((at + length x) + length y) out =
-      ap (λ (n : ℕ). drop (n + length y) (before ++ rest)) (sym (front x)) ∙ drop-append-add before rest (length y) ∙ drop-drop (length y) (at + length x) out in
-      rw (take_at before rest (at + length x) (front x), later, append_assoc (take at out) x y, length-append x y, ← (add_assoc at (length x) (length y)))
-
   pub put_none : Put out at [] out at
-  unfolding written
-  put_none = record { place = sym (add-zero at); output = sym (rw (append-nil, add-zero) (take-append-drop at out)) }
+  put_none = record { place = sym (add-zero at); output = sym (written_none out at) }
 
   pub then_put : {x y one two : List ℕ} {a b : ℕ} → Put out at x one a → Put one a y two b → Put out at (x ++ y) two b
   then_put {x} {y} p q =
       record {
         place = q.place ∙ ap (λ (n : ℕ). n + length y) p.place ∙ simp length-append (omega arith);
-        output = q.output ∙ rw (p.output, p.place) (then_written x y);
+        output = q.output ∙ rw (p.output, p.place) (then_written out at h x y);
       }
 
 -- ---- what does not fit is left out

@@ -1,6 +1,6 @@
 -- What a printer has printed. Assumes nothing.
 use Rattle.std.specs.Prelude.{◌≡◌, ℕ, ◌+◌, ◌-◌, List, length, take, min}
-use Rattle.text.specs.Text.{written}
+use Rattle.lists.specs.Lists.{written}
 use Rattle.text.specs.declared.Printer.{Printer}
 
 -- the same output, with a text behind what was printed, as far as there is room: what does not fit is left out

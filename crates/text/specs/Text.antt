@@ -1,5 +1,6 @@
 -- Printed text: decimal numbers, lines of fields, and what a lent output holds. Assumes nothing.
-use Rattle.std.specs.Prelude.{◌≡◌, ℕ, zero, suc, ◌+◌, ◌/◌, ◌%◌, List, [], ◌∷◌, ◌++◌, length, take, drop}
+use Rattle.std.specs.Prelude.{◌≡◌, ℕ, zero, suc, ◌+◌, ◌/◌, ◌%◌, List, [], ◌∷◌, ◌++◌, length}
+use Rattle.lists.specs.Lists.{written}
 use Prim.Native.Char.{code}
 use Prim.Native.String.{String, [] as empty, ◌∷◌ as ◌then◌}
 
@@ -29,10 +30,7 @@ spaced (x ∷ y ∷ ys) = x ++ (letters " " ++ spaced (y ∷ ys))
 unfoldable pub line : List (List ℕ) → List ℕ
 line fields = spaced fields ++ letters "\n"
 
--- an output with a text at a place: later places don't change
-unfoldable pub written : List ℕ → ℕ → List ℕ → List ℕ
-written out at text = (take at out ++ text) ++ drop (at + length text) out
-
+-- an output with a text at a place
 pub record Put (before : List ℕ) (at : ℕ) (text after : List ℕ) (next : ℕ) : Type 0 where
   pub place : next ≡ at + length text
   pub output : after ≡ written before at text

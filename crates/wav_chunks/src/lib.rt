@@ -10,7 +10,7 @@ use parts::Part;
 use wav_format::{Chunks, Format};
 
 // Whether the four bytes from `at` on are these letters.
-#[tactic(auto, using(lists::proofs::Letters::letters_equal, digits::proofs::Laws::tail_all), unfolding(wav_format::specs::Wave::letters_at))]
+#[tactic(auto, using(lists::proofs::Letters::letters_equal, lists::proofs::Parts::tail_all), unfolding(wav_format::specs::Wave::letters_at))]
 pub fn letters_at(s: &[u8], at: usize, letters: &[u8; 4]) -> bool
     requires { at + 4 ≤ length s.now }
     ensures { result ≡ letters_at s.now at (slice_index letters.now 0) (slice_index letters.now 1)

@@ -77,14 +77,6 @@ end_said s w e = subst (λ (x : Wave). x.end ≡ riff_end s) (through s w e).sai
 
 -- ---- strict reading
 
--- it accepts what plain reading accepts, and says the same of it
-pub strict_plain : (s : List ℕ) (w : Wave) → read_strict s ≡ result w → read_wave s ≡ result w
-unfolding read_strict check_strict
-strict_plain s w e =
-    let t = then_passed _ _ e in
-    let last : result t.0 ≡ result w = (cleared _ _ _ _ (cleared _ _ _ _ (passed _ _ _ _ t.2).1).1).1 in
-    t.1 ∙ last
-
 -- what plain reading refuses it refuses in the same way
 pub strict_refused_lem : (s : List ℕ) (n : ℕ) (vs : List ℕ) → read_wave s ≡ refused n vs → read_strict s ≡ refused n vs
 unfolding read_strict

@@ -1,14 +1,14 @@
 -- The loop over the samples, two bytes a turn, gives the definition's bytes. Assumes nothing.
-use mathlib.Core.Path.{◌≡◌, refl, sym, ◌∙◌, ap}
+use mathlib.Core.Path.{◌≡◌, refl, sym, ◌∙◌}
 use mathlib.Core.List.{List, ◌++◌}
-use Prim.Native.Nat.{ℕ, ◌+◌, ◌*◌, ◌≤◌}
+use Prim.Native.Nat.{ℕ, ◌+◌, ◌-◌, ◌*◌}
 use native.Mathlib.Omega.{arith}
 use native.Mathlib.Numerals.{add-one}
 use lib.IntN.{ℤ, pos}
-use lib.ListN.{length, get_or, take, drop, length-append, length-drop}
-use lib.Seq.{take_at, drop_at, drop-drop}
-use Rattle.lists.specs.Lists.{joined}
+use lib.ListN.{length, get_or, take, drop}
+use Rattle.lists.specs.Lists.{joined, written}
 use Rattle.lists.proofs.ByIndex.{length-joined}
+use Rattle.lists.proofs.Parts.{written_front, written_none, more_written}
 use Rattle.digits.specs.Digits.{stored}
 use Rattle.digits.proofs.Laws.{length_digits}
 use Rattle.signed.specs.Signed.{to_twos}
@@ -32,30 +32,20 @@ module _ (samples : List ℤ) where
   module _ (o : List ℕ) where
     -- after i samples
     pub record Writing (i : ℕ) (out : List ℕ) : Type 0 where
-      pub out_is : out ≡ joined (λ i. stored 2 (to_twos (get_or samples i (pos 0)))) i ++ drop (2 * i) o
+      pub out_is : out ≡ written o 0 (joined (λ i. stored 2 (to_twos (get_or samples i (pos 0)))) i)
 
     pub writing_none : Writing 0 o
     unfolding joined
-    writing_none = record { out_is = refl }
-
-    pub length_writing : (i : ℕ) {out : List ℕ} → Writing i out → 2 * i ≤ length o → length out ≡ length o
-    length_writing i w l = ap length w.out_is ∙ simp (length-append, length-drop) (omega (arith, length_first i))
+    writing_none = record { out_is = sym (written_none o 0) }
 
     -- one sample more
-    next : (i : ℕ) {out : List ℕ} → Writing i out → take (2 * i) out ++ bytes_of i ++ drop (2 * i + 2) out ≡ first (i + 1) ++ drop (2 * (i + 1)) o
+    pub writing_more : (i at len : ℕ) {out bytes : List ℕ} → at ≡ 2 * i → len ≡ 2 → Writing i out → bytes ≡ bytes_of i
+        → Writing (i + 1) (take at out ++ (bytes ++ drop (at + len - at) (drop at out)))
     unfolding joined
-    next i {out} w =
-        let low : take (2 * i) out ≡ first i = ap (take (2 * i)) w.out_is ∙ take_at (first i) (drop (2 * i) o) (2 * i) (length_first i) in
-        let high : drop (2 * i + 2) out ≡ drop (2 * i + 2) o =
-        sym (drop-drop 2 (2 * i) out) ∙ ap (λ l. drop 2 (drop (2 * i) l)) w.out_is
-        ∙ ap (drop 2) (drop_at (first i) (drop (2 * i) o) (2 * i) (length_first i)) ∙ drop-drop 2 (2 * i) o in
-        let past : 2 * (i + 1) ≡ 2 * i + 2 = omega arith in
-        rw (low, high, past, add-one)
-
-    pub writing_more : (i : ℕ) {out out' : List ℕ} → Writing i out → out' ≡ take (2 * i) out ++ stored 2 (to_twos (get_or samples i (pos 0))) ++ drop (2 * i + 2) out
-        → Writing (i + 1) out'
-    writing_more i w e = record { out_is = e ∙ next i w }
+    writing_more i at len ea el w e =
+        let from : at ≡ 0 + length (first i) = omega (arith, ea, length_first i) in
+        record { out_is = rw add-one (more_written o 0 (omega arith) (first i) (bytes_of i) from (el ∙ sym (length_digits 8 2 _)) w.out_is e) }
 
     pub writing_all : {i : ℕ} {out : List ℕ} → Writing i out → i ≡ length samples → out ≡ sample_bytes samples ++ drop (2 * length samples) o
     unfolding sample_bytes
-    writing_all w e = w.out_is ∙ rw e
+    writing_all w e = w.out_is ∙ rw e (written_front o (first (length samples)) ∙ rw length_samples refl)

@@ -10,7 +10,7 @@ use Rattle.outcome.specs.Outcome.{result}
 use Rattle.outcome.proofs.Table.{gives_result}
 use Rattle.outcome.specs.Table.{Gives}
 use Rattle.digits.specs.Digits.{digits}
-use Rattle.digits.proofs.Laws.{tail_all, tail_put}
+use Rattle.lists.proofs.Parts.{tail_all, tail_put}
 use Rattle.wav_writer.specs.Writer.{wave_header, sample_bytes, wave_bytes, write_call}
 use Rattle.wav_writer.proofs.SampleLoop.{length_samples}
 
