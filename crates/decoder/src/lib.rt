@@ -13,7 +13,8 @@ use outcome::Error;
 use sqv4_format::{Header, Reached};
 
 // Internal: the samples of the fragment at a place go into the output, sample t of channel c to t * channels + c. The room stands in three
-// contracts: a type for it would have to hold the place here, the player there, and lend `out`.
+// contracts: a type for it would have to hold the place here, the player there, and lend `out`. In line: else decoding took a tenth longer.
+#[inline(always)]
 fn put(place: Place, samples: &[i16; 64], out: &mut [i16])
     requires { place.header.samples * place.header.channels ≤ length out.old }
     ensures { out.new ≡ put_at place.header place.p samples.now out.old }
