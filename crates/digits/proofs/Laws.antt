@@ -18,14 +18,14 @@ Small w ds = (i : ℕ) → get_or ds i 0 < 2 ^ w
 
 -- ---- the number of a list of digits
 
-turn : (p d n : ℕ) → d + p * n ≡ n * p + d
-turn p d n = add_comm d (p * n) ∙ ap (λ (y : ℕ). y + d) (mul_comm p n)
+sum_swapped : (p d n : ℕ) → d + p * n ≡ n * p + d
+sum_swapped p d n = add_comm d (p * n) ∙ ap (λ (y : ℕ). y + d) (mul_comm p n)
 
 cons_div : (w n : ℕ) {d : ℕ} → d < 2 ^ w → (d + 2 ^ w * n) / 2 ^ w ≡ n
-cons_div w n {d} h = ap (λ (y : ℕ). y / 2 ^ w) (turn (2 ^ w) d n) ∙ digits_div n h
+cons_div w n {d} h = ap (λ (y : ℕ). y / 2 ^ w) (sum_swapped (2 ^ w) d n) ∙ digits_div n h
 
 cons_mod : (w n : ℕ) {d : ℕ} → d < 2 ^ w → (d + 2 ^ w * n) % 2 ^ w ≡ d
-cons_mod w n {d} h = ap (λ (y : ℕ). y % 2 ^ w) (turn (2 ^ w) d n) ∙ digits_mod n h
+cons_mod w n {d} h = ap (λ (y : ℕ). y % 2 ^ w) (sum_swapped (2 ^ w) d n) ∙ digits_mod n h
 
 -- one digit more, below: its place is w bits lower
 place : (x w k : ℕ) → x / 2 ^ w / 2 ^ (w * k) ≡ x / 2 ^ (w * suc k)
@@ -67,7 +67,7 @@ pub number_lt : (w : ℕ) (ds : List ℕ) → Small w ds → number w ds < 2 ^ (
 unfolding number
 number_lt w [] h = pow_pos (w * 0)
 number_lt w (d ∷ ds) h =
-    rw (turn (2 ^ w) d (number w ds), pow_place w (length ds)) (digits_lt (number_lt w ds (λ i. h (suc i))) (h zero))
+    rw (sum_swapped (2 ^ w) d (number w ds), pow_place w (length ds)) (digits_lt (number_lt w ds (λ i. h (suc i))) (h zero))
 
 -- ---- the digits of a number
 
@@ -111,7 +111,7 @@ unfolding number digits
 number_digits w zero x = sym (ap (λ (e : ℕ). x % 2 ^ e) (mul-zero w) ∙ mod-one x)
 number_digits w (suc n) x =
     ap (λ (y : ℕ). x % 2 ^ w + 2 ^ w * y) (number_digits w n (x / 2 ^ w))
-    ∙ turn (2 ^ w) (x % 2 ^ w) (x / 2 ^ w % 2 ^ (w * n))
+    ∙ sum_swapped (2 ^ w) (x % 2 ^ w) (x / 2 ^ w % 2 ^ (w * n))
     ∙ sym (mod-pow-add x (w * n) w)
     ∙ ap (λ (e : ℕ). x % 2 ^ e) (sym (mul-suc w n))
 
@@ -210,7 +210,7 @@ number-take w (d ∷ ds) h (suc m) =
     ap (λ (e : ℕ). (d + 2 ^ w * number w ds) % 2 ^ e) (mul-suc w m)
     ∙ mod-pow-add (d + 2 ^ w * number w ds) (w * m) w
     ∙ ap₂ (λ (x y : ℕ). x % 2 ^ (w * m) * 2 ^ w + y) (cons_div w (number w ds) (h zero)) (cons_mod w (number w ds) (h zero))
-    ∙ sym (turn (2 ^ w) d (number w ds % 2 ^ (w * m)))
+    ∙ sym (sum_swapped (2 ^ w) d (number w ds % 2 ^ (w * m)))
     ∙ ap (λ (x : ℕ). d + 2 ^ w * x) (number-take w ds (λ i. h (suc i)) m)
 
 -- the number of the n + 1 digits from a place on

@@ -1,6 +1,5 @@
 // Numbers and their digits: codes packed into bytes and unpacked again, once for every width, the check of a payload's unused bits, and
-// little-endian numbers read from bytes and written to them. The definitions stand in specs/Digits, the laws that callers cite in
-// proofs/Laws, that of a loop from one width to another in proofs/Regrouping, and what std's bytes of a number are in proofs/StdBytes.
+// little-endian numbers read from bytes and written to them.
 #![tactic(auto)]
 
 ghost use Rattle.std.specs.Prelude.{◌≡◌, ℕ, ◌+◌, ◌*◌, ◌^◌, ◌≤◌, ◌<◌, ◌++◌, length, get_or, take, drop};

@@ -25,7 +25,7 @@ pub record Ran (k : Settings) (v : ℕ) (xs : List ℤ) (b : Best) : Type 0 wher
   pub small : b.found.sum < 2 ^ 38
   pub marked : take (length xs) b.marks ≡ marks_of k v xs b.found.index (length xs)
 
--- what is added to the best sum, so that the sums below it win: at a start below the best's a tie wins
+-- what is added to the best sum, so that the sums below it win: at a start below the best's an equal one wins too
 abbrev pub equal_wins : ℕ → ℕ → ℕ
 equal_wins index best = cond (ltb index best) 1 0
 

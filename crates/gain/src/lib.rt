@@ -1,5 +1,4 @@
-// The gains of a sample: pre-gain, the volume of a fragment, normalising to full scale, and output gain. The definitions stand in
-// specs/Gain of sqv4_format, the ranges of the results in proofs/Laws.
+// The gains of a sample: pre-gain, the volume of a fragment, normalising to full scale, and output gain.
 #![tactic(auto)]
 
 ghost use Rattle.std.specs.Prelude.{◌≡◌, ◌+◌, ◌*◌, ◌/◌, ◌<◌, ◌≤◌, length, unsigned_abs};

@@ -1,6 +1,5 @@
 // Signed numbers by sign and magnitude, the clamps, and the two bytes of a 16-bit sample. Of the codec's crates this alone adds, subtracts
-// and negates signed numbers; the others compare and cast them, and take magnitudes and distances. `clamp16`, `sample_of` and
-// `sample_bytes` are std's bodies under the names by which the rules call them.
+// and negates signed numbers; the others compare and cast them, and take magnitudes and distances.
 #![tactic(auto)]
 
 ghost use Rattle.std.specs.Prelude.{◌≡◌, ◌+◌, ◌-◌, ◌*◌, ◌<◌, ◌≤◌, ◌^◌, pos, nat_abs, ◌+ℤ◌, ◌-ℤ◌};
@@ -27,7 +26,7 @@ pub fn sign_like(x: i32, m: u32) -> i32
     with_sign(x.is_negative(), m)
 }
 
-// Clamped to -32768..=32767.
+// Clamped to -32768..=32767: std's `clamp` by the rule's name, as `sample_of` and `sample_bytes` below are std's conversions.
 #[tactic(auto, using(crate::proofs::Laws::clamp16_is))]
 pub fn clamp16(x: i32) -> i32
     ensures { result ≡ clamp16 x }
