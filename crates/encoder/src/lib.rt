@@ -70,6 +70,7 @@ fn put_fragments(coder: &Coder, pcm: &[i16], h: Header, out: &mut [u8])
 // Encodes interleaved samples at the caller's settings into `out`, as a stream of version 3, and answers its length. A refusal leaves the
 // output as it was. Samples, channels and rate stay three parameters here, in the WAV writer and in the calls for C, as in the reference
 // Rust: a struct would be made and taken apart at each.
+#[tactic(auto, using(outcome::proofs::Laws::checks), unfolding(sqv4_format::specs::Encode::encode_call, sqv4_format::specs::Encode::too_many, sqv4_format::specs::Encode::header_written, outcome::specs::Outcome::on_result, outcome::specs::Outcome::output_after))]
 pub fn encode(
     settings: Settings,
     pcm: &[i16],
