@@ -31,8 +31,11 @@ fn put(place: Place, samples: &[i16; 64], out: &mut [i16])
 // Internal: the turns of N fragments from place `p` on, side by side: their samples go into the output, and their channels' states
 // move on.
 fn decode_lanes<const N: usize>(player: Player, p: usize, states: &mut [Reached], out: &mut [i16])
-    requires { (0 < N) × (p + N ≤ frames player.stream.header * player.stream.header.channels) × InStep player.stream.header p N
-        × (player.stream.header.channels ≤ length states.old) × (player.stream.header.samples * player.stream.header.channels ≤ length out.old) }
+    requires some { 0 < N }
+    requires within { p + N ≤ frames player.stream.header * player.stream.header.channels }
+    requires in_step { InStep player.stream.header p N }
+    requires states { player.stream.header.channels ≤ length states.old }
+    requires room { player.stream.header.samples * player.stream.header.channels ≤ length out.old }
     ensures { (o : List ℤ) → Decoding player.entry.stream.header player.entry.stream.file.now o p out.old states.old
         → Decoding player.entry.stream.header player.entry.stream.file.now o (p + N) out.new states.new }
 {

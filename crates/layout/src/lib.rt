@@ -101,8 +101,9 @@ impl Place {
     // How many samples the fragment has: those of a whole frame before the last frame. They lie in the channel. A loop over the places
     // divides nothing at a turn.
     pub fn samples(self) -> usize
-        ensures { (result ≡ count self.header (self.p / self.header.channels)) × (result ≤ 64)
-            × (self.p / self.header.channels * whole_frame self.header + result ≤ self.header.samples) }
+        ensures value { result ≡ count self.header (self.p / self.header.channels) }
+        ensures high { result ≤ 64 }
+        ensures inside { self.p / self.header.channels * whole_frame self.header + result ≤ self.header.samples }
     {
         let header = self.header;
         let fragments = fragment_count(header);

@@ -7,7 +7,7 @@ use Rattle.decoder.proofs.decode_lanes.Goals as goal
 pub play-after-requires : goal.play-after-requires
 play-after-requires g c =
     let few = places_few c.args.player.stream.header (omega arith) (omega arith) in
-    (omega arith, (omega arith, (c.requires.0, c.requires.1)))
+    (omega arith, (omega arith, (c.requires.some, c.requires.within)))
 
 pub offset_bounds-samples-k : goal.offset_bounds-samples-k
 offset_bounds-samples-k g c =
@@ -19,4 +19,4 @@ loop-k-2-preserved g c = λ o t.
     let l = c.loop-k-2-test.true in
     let z = c.state-item-in-loop-k-2.result in
     rw (c.put.ensures, c.place.ensures.0, c.place.ensures.1)
-    (lane_more c.requires.2 c.args.player.stream.channels t (c.loop-k-2.invariant o t) l _ _ z _ (c.loop-k.invariant.each k (omega arith) z) (c.play-after.ensures k l z))
+    (lane_more c.requires.in_step c.args.player.stream.channels t (c.loop-k-2.invariant o t) l _ _ z _ (c.loop-k.invariant.each k (omega arith) z) (c.play-after.ensures k l z))

@@ -23,7 +23,7 @@ here c =
 
 -- this turn's samples
 n_is : (c : After-samples) → c.samples.result ≡ min 63 (length c.args.pcm.now / c.args.h.channels - c.loop-p.p / c.args.h.channels * 63)
-n_is c = c.samples.ensures.0 ∙ written_count _ _ _ _ _ c.requires.1 (c.loop-p.p / c.args.h.channels)
+n_is c = c.samples.ensures.value ∙ written_count _ _ _ _ _ c.requires.1 (c.loop-p.p / c.args.h.channels)
 
 few : (c : After-samples) → c.samples.result ≤ 63
 few c = omega (arith, n_is c)
@@ -36,7 +36,7 @@ loop-p-init c = writing_none _ _ _ _
 
 pub gather-requires : goal.gather-requires
 gather-requires c =
-    let inside : c.first.result + c.samples.result ≤ c.args.h.samples = rw c.first.ensures c.samples.ensures.2 in
+    let inside : c.first.result + c.samples.result ≤ c.args.h.samples = rw c.first.ensures c.samples.ensures.inside in
     let all = written_samples _ _ _ _ _ c.requires.1 in
     (c.channel.ensures.1, rw (taken (goal.at.gather-requires c).After-samples) (le_trans (mul-le-mul_right c.args.h.channels inside) all))
 

@@ -35,7 +35,7 @@ run-requires g c =
         (
           omega arith,
           (
-            c.samples-n.ensures.1,
+            c.samples-n.ensures.high,
             (
               λ k l d. (each k (omega arith) [] d c.zero.result).variant_is,
               (
@@ -57,7 +57,7 @@ loop-k-2-preserved g c =
     let r = c.index-states-k-in-loop-k-2 in
     let same = λ (d : Reached). sym r.is ∙ get_or_read a.states k r.result (omega arith) r.is d in
     let first = c.place.ensures in
-    let n = rw (first.0, first.1) at c.samples-n.ensures.0 in
+    let n = rw (first.0, first.1) at c.samples-n.ensures.value in
     let few : c.samples-n.result ≤ frame_samples a.self.tables.coding.version = rw (n, a.self.same_version) (count_whole h (a.p / h.channels)) in
     let lane = c.index-lanes-k-in-loop-k-2.result in
     let started = c.loop-k.invariant.each k (omega arith) [] lane r.result in

@@ -13,7 +13,7 @@ returns-then-self-header c =
     let more = rw c.fragment_count-fragments.ensures.0 at c.if-self-header.true in
     let whole : c.frame_samples.result ≡ whole_frame h = rw (c.frame_samples.ensures.value, c.coding.ensures) in
     let is = whole ∙ (rw (lt-ltb _ _ more) at all) in
-    (is, c.frame_samples.ensures.high, rw is (frame_end h place.p place.within))
+    record { value = is; high = c.frame_samples.ensures.high; inside = rw is (frame_end h place.p place.within) }
 
 pub returns-else-self-header : goal.returns-else-self-header
 returns-else-self-header c =
@@ -22,4 +22,4 @@ returns-else-self-header c =
     let all = count_at_place h place.p place.within in
     let none = rw c.fragment_count-fragments.ensures.0 at c.if-self-header.false in
     let is = c.last_count.ensures.0 ∙ (rw (le-ltb _ _ none) at all) in
-    (is, c.last_count.ensures.1, rw is (frame_end h place.p place.within))
+    record { value = is; high = c.last_count.ensures.1; inside = rw is (frame_end h place.p place.within) }
