@@ -12,7 +12,7 @@ use layout::{Place, Stream};
 use outcome::Error;
 use sqv4_format::{Header, Reached};
 
-// Internal: the samples of the fragment at a place go into the output, sample t of channel c to t * channels + c. The room stands in three
+// The samples of the fragment at a place go into the output, sample t of channel c to t * channels + c. The output's length stands in three
 // contracts: a type for it would have to hold the place here, the player there, and lend `out`. In line: else decoding took a tenth longer.
 #[inline(always)]
 fn put(place: Place, samples: &[i16; 64], out: &mut [i16])
@@ -28,8 +28,8 @@ fn put(place: Place, samples: &[i16; 64], out: &mut [i16])
     );
 }
 
-// Internal: the turns of N fragments from place `p` on, side by side: their samples go into the output, and their channels' states
-// move on.
+// The turns of N fragments from place `p` on, side by side: their samples go into the output, and their channels' states move on. There is
+// a state for each channel.
 fn decode_lanes<const N: usize>(player: Player, p: usize, states: &mut [Reached], out: &mut [i16])
     requires some { 0 < N }
     requires within { p + N ≤ frames player.stream.header * player.stream.header.channels }
@@ -64,7 +64,7 @@ fn pairs(header: Header, fragments: usize) -> usize
     }
 }
 
-// Internal: the samples of every fragment, in file order, with one state for each channel.
+// The samples of every fragment, in file order, with one state for each channel. Here alone the number of channels has a bound.
 fn decode_fragments(player: Player, out: &mut [i16])
     requires { (player.stream.header.channels ≤ MOST_CHANNELS) × (player.stream.header.samples * player.stream.header.channels ≤ length out.old) }
     ensures { out.new ≡ loop_out player.entry.stream.header player.entry.stream.file.now out.old (frames player.entry.stream.header * player.entry.stream.header.channels) }

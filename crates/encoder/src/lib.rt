@@ -39,7 +39,7 @@ fn header_bytes(h: Header) -> [u8; 16]
     bytes
 }
 
-// Internal: the 16 bytes of a header, at the front of `out`.
+// The 16 bytes of a header, at the front of `out`.
 fn put_header(out: &mut [u8], h: Header)
     requires { 16 ≤ length out.old }
     ensures { out.new ≡ header_bytes h ++ drop 16 out.old }
@@ -47,8 +47,8 @@ fn put_header(out: &mut [u8], h: Header)
     out[..layout::HEADER_SIZE].copy_from_slice(&header_bytes(h));
 }
 
-// Internal: the fragments of the encoding with this header, in file order, behind the 16 bytes of the header. Each part of the output is
-// lent by its place, since a proof doesn't know what `chunks_exact_mut` leaves.
+// The fragments of the encoding with this header, in file order, behind the 16 bytes of the header. Each part of the output is lent by its
+// place, since a proof doesn't know what `chunks_exact_mut` leaves.
 fn put_fragments(coder: &Coder, pcm: &[i16], h: Header, out: &mut [u8])
     requires { (0 < h.channels) × (h ≡ header_written coder.now.settings pcm.now h.channels h.rate)
         × (stream_length h ≤ length out.old) }
