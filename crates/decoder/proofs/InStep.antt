@@ -1,4 +1,4 @@
--- Turns side by side, and where samples are put. Assumes nothing.
+-- Turns side by side: each finds its channel's state as it was before them all, and has no more samples than the first. Assumes nothing.
 use Prim.Native.Nat.{ℕ, zero, suc, ◌+◌, ◌*◌, ◌/◌, ◌%◌, ◌≤◌, ◌<◌}
 use native.Mathlib.Nat.{div-add-mod', div-mul-le_self, le-div_iff_mul-le, mul-le-mul_right}
 use native.Mathlib.Omega.{arith}
