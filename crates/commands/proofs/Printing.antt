@@ -12,7 +12,7 @@ use lib.Seq.{take_at, length-take-le}
 use borrow.Author.Tests.{le-ltb, eqb-true}
 use Rattle.outcome.specs.Outcome.{Outcome, result, refused, refuse_if, need, on_result, output_after}
 use Rattle.outcome.proofs.Flags.{either_elim}
-use Rattle.outcome.proofs.Laws.{checks, clear, then_result, then_refused, on_result_lem, on_refused}
+use Rattle.outcome.proofs.Laws.{checks, clear, then_result, then_refused, on_result_lem}
 use Rattle.sqv4_format.specs.Layout.{variant_of, anew, version_for, channels_fit, payload_bytes, frames, size_in, stream_length}
 use Rattle.sqv4_format.specs.Encode.{header_written, encode_call}
 use Rattle.sqv4_format.specs.Inspect.{inspected}
@@ -160,10 +160,6 @@ module _ (d : List ℕ) where
   pub stream_too_long : 65536 < length d → refused 38 [] ≡ reported d
   unfolding reported
   stream_too_long l = search checks depth 12
-
-  pub stream_refused : {n : ℕ} {vs : List ℕ} → length d ≤ 65536 → refused n vs ≡ inspected d → refused n vs ≡ reported d
-  unfolding reported
-  stream_refused few e = clear _ _ _ _ _ (le-ltb _ _ few) (on_refused _ _ e)
 
   pub stream_reported : {h : Header} → length d ≤ 65536 → result h ≡ inspected d → result (report d h) ≡ reported d
   unfolding reported

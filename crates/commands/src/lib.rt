@@ -54,6 +54,7 @@ fn put_report(stream: &Stream, out: &mut [u8; OUTPUT_SIZE]) -> usize
 }
 
 // The report on the stream that the input is, at the front of the output.
+#[tactic(auto, using(outcome::proofs::Laws::checks), unfolding(crate::specs::Commands::reported, outcome::specs::Outcome::on_result, outcome::specs::Outcome::output_after))]
 fn inspect(input: &[u8], out: &mut [u8; OUTPUT_SIZE]) -> Result<usize, Error>
     requires { length input.now ≤ 65536 }
     ensures { Gives (reported input.now) out.old result out.new }

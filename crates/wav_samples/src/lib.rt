@@ -8,6 +8,7 @@ ghost use Rattle.wav_format.specs.Samples.{samples_call};
 use outcome::Error;
 
 // The samples of sample bytes, written to the front of `out`, and how many there are. A refusal leaves `out` as it was.
+#[tactic(auto, using(outcome::proofs::Laws::checks), unfolding(wav_format::specs::Samples::samples_call, outcome::specs::Outcome::on_result, outcome::specs::Outcome::output_after))]
 pub fn load_samples(bytes: &[u8], out: &mut [i16]) -> Result<usize, Error>
     ensures { Gives (samples_call bytes.now (length out.old)) out.old result out.new }
 {

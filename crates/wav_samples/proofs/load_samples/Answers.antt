@@ -10,16 +10,11 @@ use Rattle.lists.specs.Lists.{tabulate}
 use Rattle.lists.proofs.ByIndex.{fill_next}
 use Rattle.signed.specs.Signed.{of_twos}
 use Rattle.signed.proofs.Laws.{back16}
-use Rattle.outcome.specs.declared.Error.TheVariants.{OutputTooShort}
 use Rattle.outcome.proofs.Laws.{checks}
-use Rattle.outcome.proofs.Table.{gives_refused, gives_result}
+use Rattle.outcome.proofs.Table.{gives_result}
 use Rattle.wav_format.specs.Samples.{samples_of, samples_call}
 use Rattle.wav_samples.proofs.Samples.{two_bytes_at, length_samples}
 use Rattle.wav_samples.proofs.load_samples.Goals as goal
-
-pub returns-then-out-n : goal.returns-then-out-n
-unfolding samples_call
-returns-then-out-n c = gives_refused (OutputTooShort _) (search checks)
 
 pub loop-i-init : goal.loop-i-init
 unfolding tabulate
