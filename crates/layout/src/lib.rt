@@ -140,7 +140,7 @@ impl<'a> Stream<'a> {
         fragment_count(self.header)
     }
 
-    // Internal: the place `p` of the file order.
+    // The place `p` of the file order.
     pub fn place(&self, p: usize) -> Place
         requires { p < frames self.now.header * self.now.header.channels }
         ensures { (result.header ≡ self.now.header) × (result.p ≡ p) }
@@ -151,7 +151,7 @@ impl<'a> Stream<'a> {
         }
     }
 
-    // Internal: the fragment at the place `p`.
+    // The fragment at the place `p`.
     #[tactic(auto, using(crate::proofs::Places::part_place))]
     pub fn fragment(&self, p: usize) -> Coded<'a>
         requires { p < frames self.now.header * self.now.header.channels }
