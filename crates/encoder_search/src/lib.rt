@@ -27,7 +27,7 @@ pub struct Fragment<'a> {
     ghost full_scale: { targets.now ≡ map (target coder.now.settings volume) xs.now },
 }
 
-// Where a trial stands before a sample: its sum so far, and its state as one number, which H is compared faster by.
+// Where a trial stands before a sample: its sum so far, and its state, as one number: H is encoded faster so.
 #[derive(Clone, Copy)]
 struct Mark {
     sum: u64,
