@@ -89,8 +89,8 @@ fn encode(input: &[u8], out: &mut [u8; OUTPUT_SIZE]) -> Result<usize, Error>
     encoder::encode(settings, &pcm[..count], channels, wave.rate, out)
 }
 
-// What a command prints: the result that it gives for an input of at most MOST_INPUT bytes, which is at the front of the output then, or the line
-// of a refusal. The answer is how many bytes there are.
+// What a command prints: the result that it gives for an input of at most MOST_INPUT bytes, which is at the front of the output then, or
+// the line of a refusal. The answer is how many bytes there are.
 fn print<F: Fn(&[u8], &mut [u8; OUTPUT_SIZE]) -> Result<usize, Error>>(
     input: &[u8],
     out: &mut [u8; OUTPUT_SIZE],
@@ -128,7 +128,8 @@ pub fn report(input: &[u8], out: &mut [u8; OUTPUT_SIZE]) -> usize
     print(input, out, inspect)
 }
 
-// Internal: a program. It reads what it takes and one byte. Of the standard streams no contract says what is left: tests/command tries those.
+// Internal: a program. It reads what it takes and one byte. Of the standard streams no contract says what is left: tests/command tries
+// those.
 pub fn run<R: Read + Drop, W: Write, F: Fn(&[u8], &mut [u8; OUTPUT_SIZE]) -> usize>(
     source: R,
     sink: &mut W,

@@ -50,8 +50,9 @@ fn put_header(out: &mut [u8], h: Header)
 // The fragments of the encoding with this header, in file order, behind the 16 bytes of the header. Each part of the output is lent by its
 // place, since a proof doesn't know what `chunks_exact_mut` leaves.
 fn put_fragments(coder: &Coder, pcm: &[i16], h: Header, out: &mut [u8])
-    requires { (0 < h.channels) × (h ≡ header_written coder.now.settings pcm.now h.channels h.rate)
-        × (stream_length h ≤ length out.old) }
+    requires some { 0 < h.channels }
+    requires written { h ≡ header_written coder.now.settings pcm.now h.channels h.rate }
+    requires long { stream_length h ≤ length out.old }
     ensures { out.new ≡ written out.old 16 (joined (fragment_for coder.now.settings pcm.now h.channels) (frames h * h.channels)) }
 {
     let channels = h.channels as usize;

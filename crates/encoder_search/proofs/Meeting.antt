@@ -5,10 +5,9 @@ use Prim.Native.Nat.{ℕ, zero, suc, ◌+◌, ◌-◌, ◌≤◌, ◌<◌}
 use native.Mathlib.Nat.{zero-add, suc-add}
 use native.Mathlib.Omega.{arith}
 use lib.IntN.{ℤ, pos, nat_abs, ◌-ℤ◌}
-use lib.ListN.{length, get_or, set, take, length-set}
+use lib.ListN.{length, get_or, set}
 use lib.Seq.{get_or-take}
 use Rattle.std.proofs.lemmas.List.{get_or-map}
-use Rattle.lists.specs.Lists.{tabulate}
 use Rattle.lists.proofs.ByIndex.{get_d_tabulate, Filled, filled_none, filled_more}
 use mir.Syntax.{w16, w32}
 use mir.Val.{SFits, to_z, of_z}
@@ -22,7 +21,7 @@ use Rattle.sqv4_format.specs.Encode.{target, square, code_for, trial_step, trial
 use Rattle.sqv4_format.specs.declared.Settings.{Settings}
 use Rattle.sqv4_format.specs.declared.State.{State}
 use Rattle.sqv4_format.proofs.Range.{start_range, stepped_range}
-use Rattle.encoder_search.specs.Search.{key, mark_of, marks_of, Ran, equal_wins, Beaten}
+use Rattle.encoder_search.specs.Search.{key, mark_of, Ran, equal_wins, Beaten}
 use Rattle.encoder_search.specs.declared.Mark.{Mark}
 use Rattle.encoder_search.specs.declared.Best.{Best}
 use Rattle.encoder_search.proofs.Summed.{Summed, summed_none, summed_more, over_limit}

@@ -1,5 +1,6 @@
 // The state after the code that the encoder chooses, without the code: for H by what is left of the distance, for L and L+ by three
-// comparisons instead of eight candidates. The plain form, `encoder_choice::encode_code` and `adpcm::update`, would be too slow for a search.
+// comparisons instead of eight candidates. The plain form, `encoder_choice::encode_code` and `adpcm::update`, would be too slow for a
+// search.
 #![tactic(auto)]
 
 ghost use Rattle.std.specs.Prelude.{◌≡◌, ◌+◌, ◌-◌, ◌*◌, ◌<◌, ◌≤◌, min, if◌then◌else◌};

@@ -13,8 +13,8 @@ pub enum ReturnedNumbers {
     Two(usize, usize),
 }
 
-// Why a call refuses: a case for each line of the table, in its order. Those of the codec have the reference Rust's names, but 13 to 15, which
-// it has not; `OutputTooShort` is of all calls that fill an output.
+// Why a call refuses: a case for each line of the table, in its order. Those of the codec have the reference Rust's names, but 13 to 15,
+// which it has not; `OutputTooShort` is of all calls that fill an output.
 #[derive(Clone, Copy)]
 pub enum Error {
     InvalidChannels(u8),

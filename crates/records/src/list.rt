@@ -7,8 +7,8 @@ use std::io;
 use std::io::Read;
 use text::Printer;
 
-// The most bytes of a question. It and its answer lie in arrays and not in ArrayVecs: of each only the front is stored, and the zeros behind it
-// are the array's own.
+// The most bytes of a question. It and its answer lie in arrays and not in ArrayVecs: of each only the front is stored, and the zeros
+// behind it are the array's own.
 const QUESTION: usize = READ_AT_MOST + 1;
 
 // The bytes of a record's four sizes.

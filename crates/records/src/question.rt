@@ -65,7 +65,8 @@ impl<'a> Question<'a> {
         u64::from_le_bytes(self.chunk())
     }
 
-    // The next decoder's state: whether the predictor is negative, its magnitude, and the index. A predictor that is too large is the least.
+    // The next decoder's state: whether the predictor is negative, its magnitude, and the index. A predictor that is too large is the
+    // least.
     pub fn state(&mut self) -> State
         ensures predictor { 17 ≤ length self.old.rest.now
             → result.predictor ≡ predictor_of (slice_index self.old.rest.now 0) (from_le_bytes w64 (take 8 (drop 1 self.old.rest.now))) }

@@ -31,7 +31,7 @@ unfolding header_written
 put_fragments-requires c =
     let v = c.version_for-version.ensures in
     let headed = headed_length _ c.args.out.now _ _ (rw v at c.put_header.ensures) (rw v at c.stream_length-needed.ensures) c.if-out-needed.false in
-    ((few (goal.at.put_fragments-requires c).Else-rate-eq0).0, rw (c.new.ensures, c.in-Ok.ensures.1, v) refl, rw v headed)
+    record { some = (few (goal.at.put_fragments-requires c).Else-rate-eq0).0; written = rw (c.new.ensures, c.in-Ok.ensures.1, v) refl; long = rw v headed }
 
 pub returns : goal.returns
 unfolding header_written encode_call too_many

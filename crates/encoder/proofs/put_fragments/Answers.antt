@@ -13,17 +13,17 @@ use Rattle.encoder.proofs.put_fragments.Goals as goal
 use Rattle.encoder.proofs.put_fragments.Goals.{In-loop-p, After-samples, After-start-at}
 
 size : (c : In-loop-p) → c.fragment_size-size.result ≡ fragment_size encoder_version c.args.coder.now.settings.variant
-size c = rw (c.fragment_size-size.ensures.value, c.coding.ensures) (written_size _ _ _ _ _ c.requires.1)
+size c = rw (c.fragment_size-size.ensures.value, c.coding.ensures) (written_size _ _ _ _ _ c.requires.written)
 
 -- the bytes of this turn's fragment lie in the output
 here : (c : After-start-at) → c.start-at.result + c.fragment_size-size.result ≤ length c.args.out.now
 here c =
     let same : c.fragment_size-size.result ≡ size_in c.args.h = rw (c.fragment_size-size.ensures.value, c.coding.ensures) refl in
-    rw same (le_trans c.start-at.ensures.1 c.requires.2)
+    rw same (le_trans c.start-at.ensures.1 c.requires.long)
 
 -- this turn's samples
 n_is : (c : After-samples) → c.samples.result ≡ min 63 (length c.args.pcm.now / c.args.h.channels - c.loop-p.p / c.args.h.channels * 63)
-n_is c = c.samples.ensures.value ∙ written_count _ _ _ _ _ c.requires.1 (c.loop-p.p / c.args.h.channels)
+n_is c = c.samples.ensures.value ∙ written_count _ _ _ _ _ c.requires.written (c.loop-p.p / c.args.h.channels)
 
 few : (c : After-samples) → c.samples.result ≤ 63
 few c = omega (arith, n_is c)
@@ -37,7 +37,7 @@ loop-p-init c = writing_none _ _ _ _
 pub gather-requires : goal.gather-requires
 gather-requires c =
     let inside : c.first.result + c.samples.result ≤ c.args.h.samples = rw c.first.ensures c.samples.ensures.inside in
-    let all = written_samples _ _ _ _ _ c.requires.1 in
+    let all = written_samples _ _ _ _ _ c.requires.written in
     (c.channel.ensures.1, rw (taken (goal.at.gather-requires c).After-samples) (le_trans (mul-le-mul_right c.args.h.channels inside) all))
 
 pub slice_bounds-samples-end : goal.slice_bounds-samples-end
@@ -58,7 +58,7 @@ encode_fragment-requires c =
 pub loop-p-preserved : goal.loop-p-preserved
 loop-p-preserved c =
     let at = goal.at.loop-p-preserved c in
-    let w = c.requires.1 in
+    let w = c.requires.written in
     let start = rw (written_size _ _ _ _ _ w) at c.start-at.ensures.0 in
     let samples = rw (taken at.After-samples, n_is at.After-samples, c.first.ensures, written_frame _ _ _ _ _ w, c.channel.ensures.0) at c.gather.ensures in
-    writing_more _ _ _ _ _ _ _ start (size at.In-loop-p) c.loop-p.invariant (omega (arith, c.requires.2)) samples c.encode_fragment.ensures
+    writing_more _ _ _ _ _ _ _ start (size at.In-loop-p) c.loop-p.invariant (omega (arith, c.requires.long)) samples c.encode_fragment.ensures
