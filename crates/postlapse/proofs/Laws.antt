@@ -8,7 +8,7 @@ use lib.ListN.{length}
 use Rattle.std.specs.Result.{is_ok}
 use Rattle.std.specs.declared.result.Result.{Result}
 use Rattle.std.specs.declared.result.Result.TheVariants.{Ok, Err}
-use Rattle.outcome.specs.Outcome.{Outcome, result, refused, and_then, on_result}
+use Rattle.outcome.specs.Outcome.{Outcome, result, refused, and_then, on_result, output_after}
 use Rattle.sqv4_format.specs.Layout.{variant_of, anew}
 use Rattle.sqv4_format.specs.Decode.{DecodedFragment, fragment_call, state_left, moves}
 use Rattle.outcome.specs.Table.{answered}
@@ -21,6 +21,11 @@ use Rattle.postlapse.specs.Promises.{fragment_for_c, Plays, PlaysAs}
 use Rattle.postlapse.specs.declared.Answer.{Answer}
 
 -- ---- the fragment decoder: its promise, and whether the call changes the channel's state
+
+pub plays_none : {o : Outcome DecodedFragment} {s : State} {out : List ℤ} {n : ℕ} {vs : List ℕ} → refused n vs ≡ o
+    → PlaysAs o s out (refused n vs) s out
+unfolding on_result output_after state_left
+plays_none e = record { answered = rw (← e); state_after = rw (← e); output_left = rw (← e) }
 
 -- a result changes it where fragments don't start anew
 pub moves_carried : (version : ℕ) (r : Result ℕ Error) → anew version ≡ false → is_ok r ≡ moves version (answered r)

@@ -171,7 +171,6 @@ impl From<WithState<Answer>> for FragmentAnswer {
 // ---- the calls
 
 // Encodes at the variant that a byte names.
-#[tactic(auto, using(outcome::proofs::Laws::then_result, outcome::proofs::Laws::then_refused, outcome::proofs::Table::gives_passed_on), unfolding(crate::specs::Promises::encode_for_c, outcome::specs::Outcome::and_then, outcome::specs::Outcome::on_result, outcome::specs::Outcome::output_after))]
 fn encode(
     pcm: &[i16],
     channels: u8,
@@ -225,7 +224,6 @@ fn moves(version: u8, answer: &Result<usize, Error>) -> bool
 }
 
 // Decodes one fragment of the variant that a byte names.
-#[tactic(auto, using(outcome::proofs::Laws::then_result, outcome::proofs::Laws::then_refused), unfolding(crate::specs::Promises::fragment_for_c, sqv4_format::specs::Decode::called, sqv4_format::specs::Decode::state_left, outcome::specs::Outcome::and_then, outcome::specs::Outcome::on_result, outcome::specs::Outcome::output_after))]
 fn play(
     version: u8,
     byte: u8,
