@@ -128,8 +128,7 @@ pub fn report(input: &[u8], out: &mut [u8; OUTPUT_SIZE]) -> usize
     print(input, out, inspect)
 }
 
-// Internal: a program. It reads what it takes and one byte. Of the standard streams no contract says what is left: tests/command tries
-// those.
+// Internal: a program. It reads what it takes and one byte. What is left of standard input no contract says: tests/command tries it.
 pub fn run<R: Read + Drop, W: Write, F: Fn(&[u8], &mut [u8; OUTPUT_SIZE]) -> usize>(
     source: R,
     sink: &mut W,

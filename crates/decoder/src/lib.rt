@@ -82,7 +82,6 @@ fn decode_fragments(player: Player, out: &mut [i16])
 
 // Decodes a whole stream into `out`: sample t of channel c goes to t * channels + c. Inspection comes first, then the check of the
 // output's room; a refusal leaves the output as it was.
-#[tactic(auto, using(outcome::proofs::Laws::checks, outcome::proofs::Laws::then_result, outcome::proofs::Laws::then_refused), unfolding(sqv4_format::specs::Inspect::decode_call, outcome::specs::Outcome::and_then, outcome::specs::Outcome::on_result, outcome::specs::Outcome::output_after))]
 pub fn decode(file: &[u8], out: &mut [i16]) -> Result<Header, Error>
     ensures { AsDecoded file.now out.old result out.new }
 {

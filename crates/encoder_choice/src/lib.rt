@@ -26,7 +26,6 @@ pub fn take_off(threshold: u32, d: u32) -> u32
 }
 
 // The H code for a normalised sample. Its bits 4, 2, 1 and 8 are written in one form, that of 1 too.
-#[tactic(auto, using(signed::proofs::Laws::read16, signed::proofs::Laws::sample_read), unfolding(sqv4_format::specs::Encode::h_code))]
 fn h_code(state: Reached, input: i16) -> u8
     ensures { (result ≡ h_code state.state input) × (result < 16) }
 {
