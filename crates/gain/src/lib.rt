@@ -31,6 +31,7 @@ fn quotient(m: u16, gain: u8, half: u32) -> u16
 
 // x * gain / 255 on the magnitude, the sign kept: cut toward zero where `half` is 0, to nearest where it is 127. `half` is a number and
 // not an enum of the two roundings, since it is what is added before the division, and the contract holds for each up to 127.
+#[tactic(auto, using(signed::proofs::Laws::back32, signed::proofs::Laws::is_neg_is, crate::proofs::Laws::scaled_fits))]
 pub fn scaled(x: i16, gain: u8, half: u32) -> i16
     requires { half ≤ 127 }
     ensures { result ≡ with_sign (is_neg x) ((unsigned_abs x * gain + half) / 255) }
@@ -39,6 +40,7 @@ pub fn scaled(x: i16, gain: u8, half: u32) -> i16
 }
 
 // Pre-gain: sample * gain / 255, cut toward zero.
+#[tactic(auto, using(signed::proofs::Laws::back16), unfolding(sqv4_format::specs::Gain::pregained, signed::specs::Signed::on_magnitude))]
 pub fn pre_gain(sample: i16, gain: u8) -> i16
     ensures { result ≡ pregained gain sample }
 {
@@ -98,6 +100,7 @@ pub fn output_gain(coding: Coding, reconstructed: i16, volume: u8) -> i16
 
 // `output_gain` of the encoder's version on raised numbers, for the search, which is faster with it. No product with a volume lies halfway
 // between two multiples of 255, so that one division rounds numbers of both signs to nearest.
+#[tactic(auto, using(signed::proofs::Laws::read16, crate::proofs::Raised::raised_gain))]
 pub fn raised_output(reconstructed: i32, volume: u8) -> u32
     requires { mag reconstructed ≤ 32767 }
     ensures { (result ≡ raised (output_gain encoder_version volume reconstructed)) × (result ≤ 65535) }
