@@ -14,13 +14,13 @@ use crate::tally::Tally;
 /// The numbers of an answer in the order of its struct, the refusal first, and zeros behind them.
 pub type Numbers = [i64; 8];
 
-fn numbers(values: &[usize]) -> Numbers {
+pub fn numbers(values: &[usize]) -> Numbers {
     let mut all = [0; 8];
     all.iter_mut().zip(values).for_each(|(place, value)| *place = *value as i64);
     all
 }
 
-fn refused(refusal: &Refusal) -> Numbers {
+pub fn refused(refusal: &Refusal) -> Numbers {
     numbers(&[&[refusal.number as usize], &refusal.values[..]].concat())
 }
 
@@ -161,7 +161,7 @@ fn ask_filled<T: Place>(
 }
 
 /// A call that writes nothing.
-fn ask_plain(
+pub fn ask_plain(
     tally: &mut Tally,
     call: &'static str,
     expected: Numbers,

@@ -1,6 +1,6 @@
 //! Calls of all kinds in several threads at once, on inputs that they share. Each must give what it gave alone.
 
-use crate::ask::{Numbers, answered, fragment_answered, header_answered, wave_answered};
+use crate::ask::{Numbers, answered, fragment_answered, header_answered, numbers, wave_answered};
 use crate::input::{hex, words};
 use crate::lists::{RATE, Random};
 use crate::postlapse::{self as ours, State};
@@ -14,8 +14,21 @@ const THREADS: usize = 4;
 /// How often each thread makes each call.
 const ROUNDS: usize = 3;
 
-const CALLS: [&str; 9] =
-    ["encode", "write", "inspect", "decode", "fragment", "fragment lent", "read", "read strict", "load samples"];
+const CALLS: [&str; 13] = [
+    "version",
+    "fragment size",
+    "frame count",
+    "stream length",
+    "encode",
+    "write",
+    "inspect",
+    "decode",
+    "fragment",
+    "fragment lent",
+    "read",
+    "read strict",
+    "load samples",
+];
 
 /// An answer, and all places of the output; of a lent state too.
 type Given = (Numbers, Vec<i64>);
@@ -60,6 +73,10 @@ impl Shared {
         let Shared { channels, variant, gain, room, version, mut state, count, .. } = *self;
         let Shared { pcm, stream, fragment, file, .. } = self;
         match call {
+            "version" => (numbers(&[0, ours::version() as usize]), vec![]),
+            "fragment size" => (answered(ours::fragment_size(version, variant)), vec![]),
+            "frame count" => (answered(ours::frame_count(version, RATE)), vec![]),
+            "stream length" => (answered(ours::stream_length(version, variant, channels, RATE)), vec![]),
             "encode" => filled(room, |out| answered(ours::encode(pcm, channels, RATE, variant, gain, out))),
             "write" => filled(room, |out| answered(ours::write_wave(channels, RATE, pcm, out))),
             "inspect" => (header_answered(ours::inspect(stream)), vec![]),
@@ -83,6 +100,9 @@ impl Shared {
     fn line(&self, call: &str) -> String {
         let Shared { channels, variant, gain, room, pcm, stream, version, state, fragment, count, file } = self;
         match call {
+            "version" | "fragment size" | "frame count" | "stream length" => {
+                format!("{call} of {version} {variant} {channels} {RATE}")
+            }
             "encode" => format!("encode {variant} {gain} {channels} {RATE}{}, room {room}", words(pcm)),
             "write" => format!("write {channels} {RATE}{}, room {room}", words(pcm)),
             "inspect" => format!("inspect {}", hex(stream)),

@@ -1,17 +1,20 @@
 -- What is proved of the calls for C: each claim under the words of include/postlapse.h that it renders. The contracts cite the same
 -- definitions. Assumes nothing.
-use mathlib.Core.Path.{◌≡◌, refl, sym}
+use mathlib.Core.Path.{◌≡◌, refl, sym, ap}
 use mathlib.Core.List.{List, [], ◌∷◌, ◌++◌}
-use Prim.Native.Nat.{ℕ, zero, suc, ◌<◌}
+use Prim.Native.Nat.{ℕ, zero, suc, ◌+◌, ◌*◌, ◌/◌, ◌^◌, ◌<◌}
 use native.Mathlib.Omega.{arith}
+use lib.Dec.{T}
 use lib.IntN.{ℤ}
 use lib.ListN.{length, drop}
-use Rattle.outcome.specs.Outcome.{result, refused, and_then, on_result, output_after}
-use Rattle.outcome.proofs.Laws.{then_refused}
-use Rattle.sqv4_format.specs.Layout.{variant_of}
+use Rattle.outcome.specs.Outcome.{result, refused, need, ◌⟫◌, and_then, on_result, output_after}
+use Rattle.outcome.proofs.Laws.{pass, passed, then_result, then_refused, then_passed}
+use Rattle.sqv4_format.specs.Layout.{known_version, channels_fit, fragment_size, variant_of, frames, stream_length}
 use Rattle.sqv4_format.specs.Decode.{DecodedFragment, fragment_call, state_left}
-use Rattle.sqv4_format.specs.Encode.{encode_call}
-use Rattle.sqv4_format.specs.Inspect.{Sound}
+use Rattle.sqv4_format.specs.Encode.{encode_call, header_written}
+use Rattle.sqv4_format.specs.Inspect.{Sound, inspected}
+use Rattle.sqv4_format.proofs.Accepted.{accepted}
+use Rattle.sqv4_format.proofs.Encoder.{encoding-accepted}
 use Rattle.sqv4_format.specs.declared.Variant.{Variant}
 use Rattle.sqv4_format.specs.declared.Variant.TheVariants.{H, L, LPlus}
 use Rattle.sqv4_format.specs.declared.Header.{Header}
@@ -19,6 +22,9 @@ use Rattle.sqv4_format.specs.declared.State.{State}
 use Rattle.parts.specs.declared.Part.{Part}
 use Rattle.postlapse.specs.Answers.{answer_of, header_answer_of, wave_answer_of, with_state}
 use Rattle.postlapse.specs.Promises.{encode_for_c, fragment_for_c, Fills, Decodes, Plays, PlaysByValue}
+use Rattle.postlapse.specs.Lengths.{library_version, fragment_size_for_c, frame_count_for_c, stream_length_for_c}
+use Rattle.postlapse.specs.Cases.{pinned}
+use Rattle.postlapse.proofs.Checks.{pinned_hold}
 use Rattle.postlapse.specs.declared.Answer.{Answer}
 use Rattle.postlapse.specs.declared.HeaderAnswer.{HeaderAnswer}
 use Rattle.postlapse.specs.declared.FragmentAnswer.{FragmentAnswer}
@@ -169,3 +175,85 @@ module _ (version : ℕ) (s : State) (fragment : List ℕ) (n : ℕ) where
   pub fragment_refuses : (byte : ℕ) → 2 < byte → fragment_for_c version byte s fragment n ≡ refused 8 (byte ∷ [])
   unfolding fragment_for_c
   fragment_refuses byte h = sym (then_refused _ _ _ _ (sym (variant_refused byte h)))
+
+-- ---- lengths, and the version
+
+-- each refusal of these calls at its bound and in its place ("Refuses 8, 7", "Refuses 7", "Refuses 8, 7, 1, in this order"), and results
+pub refusals_pinned : T pinned
+refusals_pinned = pinned_hold
+
+-- "10000 for 1.0.0 (major * 10000 + minor * 100 + patch)"
+pub version_number : library_version ≡ 1 * 10000 + 0 * 100 + 0
+version_number = refl
+
+-- the variant is its byte here too, and a byte above 2 gives 8 first
+module _ (version : ℕ) where
+  abbrev sizes : ℕ → Variant → Type 0
+  sizes byte v = fragment_size_for_c version byte ≡ (need (known_version version) 7 (version ∷ []) ⟫ result (fragment_size version v))
+
+  pub size_variants : sizes 0 H × sizes 1 L × sizes 2 LPlus
+  unfolding fragment_size_for_c variant_of and_then
+  size_variants = (refl, refl, refl)
+
+  pub size_refuses : (byte : ℕ) → 2 < byte → fragment_size_for_c version byte ≡ refused 8 (byte ∷ [])
+  unfolding fragment_size_for_c
+  size_refuses byte h = sym (then_refused _ _ _ _ (sym (variant_refused byte h)))
+
+  module _ (channels samples : ℕ) where
+    abbrev measures : ℕ → Variant → Type 0
+    measures byte v =
+        stream_length_for_c version byte channels samples
+        ≡ (need (known_version version) 7 (version ∷ [])
+        ⟫ need (channels_fit version channels) 1 (channels ∷ [])
+        ⟫ result (stream_length (record { version = version; variant = v; channels = channels; rate = 0; samples = samples })))
+
+    pub length_variants : measures 0 H × measures 1 L × measures 2 LPlus
+    unfolding stream_length_for_c variant_of and_then
+    length_variants = (refl, refl, refl)
+
+    pub length_refuses : (byte : ℕ) → 2 < byte → stream_length_for_c version byte channels samples ≡ refused 8 (byte ∷ [])
+    unfolding stream_length_for_c
+    length_refuses byte h = sym (then_refused _ _ _ _ (sym (variant_refused byte h)))
+
+-- "Bytes of a fragment": "34 bytes (H) or 26 (L, L+)", and "in versions 1 and 2 fragments have 33 bytes (H) or 25 (L, L+)"
+abbrev sizes_are : ℕ → ℕ → ℕ → Type 0
+sizes_are version h l =
+    (fragment_size_for_c version 0 ≡ result h) × (fragment_size_for_c version 1 ≡ result l) × (fragment_size_for_c version 2 ≡ result l)
+
+pub fragment_sizes : sizes_are 1 33 25 × sizes_are 2 33 25 × sizes_are 3 34 26
+unfolding fragment_size_for_c variant_of and_then known_version need
+fragment_sizes = ((refl, refl, refl), (refl, refl, refl), (refl, refl, refl))
+
+-- "Frames of a stream", "Bytes of a whole stream": of every stream that inspection accepts, by what its header says and a byte that names
+-- its variant
+module _ (d : List ℕ) (h : Header) (e : inspected d ≡ result h) where
+  pub frames_accepted : frame_count_for_c h.version h.samples ≡ result (frames h)
+  unfolding frame_count_for_c frames
+  frames_accepted = sym (pass _ _ _ _ _ (accepted d h e).version refl)
+
+  pub length_accepted : (byte : ℕ) → variant_of byte ≡ result h.variant
+      → stream_length_for_c h.version byte h.channels h.samples ≡ result (length d)
+  unfolding stream_length_for_c frames
+  length_accepted byte named =
+      let a = accepted d h e in
+      sym (then_result _ _ _ _ (sym named) (pass _ _ _ _ _ a.version (pass _ _ _ _ _ a.channels (ap result a.size))))
+
+-- and of what the encoder writes, which is of version 3; a rate is a 32-bit number
+pub length_encoded : (byte gain : ℕ) (pcm : List ℤ) (channels rate room : ℕ) (bytes : List ℕ) → rate < 2 ^ 32
+    → encode_for_c byte gain pcm channels rate room ≡ result bytes
+    → stream_length_for_c 3 byte channels (length pcm / channels) ≡ result (length bytes)
+unfolding encode_for_c header_written
+length_encoded byte gain pcm channels rate room bytes few e =
+    let t = then_passed (variant_of byte) _ e in
+    length_accepted bytes _ (encoding-accepted _ pcm channels rate room bytes few t.2) byte t.1
+
+-- "16 + frames * channels * fragment size": where there is a length, the other two calls have results, and it is made of them
+pub length_of_parts : (version byte channels samples l : ℕ) → stream_length_for_c version byte channels samples ≡ result l
+    → (n : ℕ) × (s : ℕ) × (frame_count_for_c version samples ≡ result n) × (fragment_size_for_c version byte ≡ result s)
+    × (l ≡ 16 + n * channels * s)
+unfolding stream_length_for_c frame_count_for_c fragment_size_for_c frames
+length_of_parts version byte channels samples l e =
+    let t = then_passed (variant_of byte) _ e in
+    let known = passed _ _ _ _ t.2 in
+    let last = (passed _ _ _ _ known.1).1 in
+    (_, _, sym (pass _ _ _ _ _ known.0 refl), sym (then_result _ _ _ _ (sym t.1) (pass _ _ _ _ _ known.0 refl)), cc)

@@ -1,2 +1,4 @@
 pub mod Answers
 pub mod Promises
+pub mod Lengths
+pub mod Cases

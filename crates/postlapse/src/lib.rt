@@ -1,4 +1,5 @@
-// The interface for C and Rust: the public calls of the codec and of WAV reading and writing under plain names, with answers by value.
+// The interface for C and Rust: the public calls of the codec, of its lengths and of WAV reading and writing under plain names, with answers
+// by value.
 #![tactic(auto)]
 
 ghost use Rattle.std.specs.Prelude.{◌≡◌, length};
@@ -11,15 +12,16 @@ ghost use Rattle.wav_format.specs.Wave.{read_wave, read_strict};
 ghost use Rattle.wav_writer.specs.Writer.{write_call};
 ghost use Rattle.postlapse.specs.Answers.{answer_of, header_answer_of, wave_answer_of, with_state};
 ghost use Rattle.postlapse.specs.Promises.{encode_for_c, fragment_for_c, Fills, Decodes, Plays, PlaysAs, PlaysByValue};
+ghost use Rattle.postlapse.specs.Lengths.{library_version, fragment_size_for_c, frame_count_for_c, stream_length_for_c};
 
 use fragment::WithState;
 use outcome::{Error, ReturnedNumbers};
-use sqv4_format::{Header, State, Variant};
+use sqv4_format::{Coding, Header, State, Variant};
 use wav_format::Wave;
 
-// A count, or a refusal: 0 and how many bytes or samples were written; or the number in 01's table and its returned numbers, 0 where
-// there are none. These structs are laid out for C, which has no Result: the refusal stands as a number, and each has all its numbers
-// side by side, as postlapse.h names them.
+// A refusal of 0 and a count, of what was written or what was asked for; else the number in 01's table and its returned numbers, 0 where
+// there are none. These structs are laid out for C, which has no Result: the refusal stands as a number, and each has all its numbers side
+// by side, as postlapse.h names them.
 #[repr(C)]
 #[derive(Clone, Copy, Default)]
 pub struct Answer {
@@ -169,6 +171,84 @@ impl From<WithState<Answer>> for FragmentAnswer {
 }
 
 // ---- the calls
+
+// The library's version as a number: major * 10000 + minor * 100 + patch.
+pub fn postlapse_version() -> u32
+    ensures { result ≡ library_version }
+{
+    10000
+}
+
+// Bytes of a fragment of the variant that a byte names.
+#[tactic(auto, using(outcome::proofs::Laws::checks), unfolding(outcome::specs::Outcome::and_then, crate::specs::Lengths::fragment_size_for_c))]
+fn fragment_size(version: u8, byte: u8) -> Result<usize, Error>
+    ensures { answered result ≡ fragment_size_for_c version byte }
+{
+    let variant = Variant::try_from(byte)?;
+    if !sqv4_format::known_version(version) {
+        return Err(Error::UnsupportedVersion(version));
+    }
+    Ok(Coding { version, variant }.fragment_size())
+}
+
+// Bytes of a fragment.
+pub fn postlapse_fragment_size(version: u8, variant: u8) -> Answer
+    ensures { result ≡ answer_of (fragment_size_for_c version variant) }
+{
+    Answer::from(fragment_size(version, variant))
+}
+
+// Frames of a stream: the fragments of each of its channels, whatever its variant, channels and rate.
+#[tactic(auto, using(outcome::proofs::Laws::checks), unfolding(sqv4_format::specs::Layout::frames, crate::specs::Lengths::frame_count_for_c))]
+fn frame_count(version: u8, samples: u32) -> Result<usize, Error>
+    ensures { answered result ≡ frame_count_for_c version samples }
+{
+    if !sqv4_format::known_version(version) {
+        return Err(Error::UnsupportedVersion(version));
+    }
+    Ok(layout::fragment_count(Header {
+        version,
+        variant: Variant::H,
+        channels: 1,
+        rate: 0,
+        samples,
+    }))
+}
+
+// Frames of a stream of `samples` samples a channel.
+pub fn postlapse_frame_count(version: u8, samples: u32) -> Answer
+    ensures { result ≡ answer_of (frame_count_for_c version samples) }
+{
+    Answer::from(frame_count(version, samples))
+}
+
+// Bytes of a whole stream, whatever its rate, of the variant that a byte names.
+#[tactic(auto, using(outcome::proofs::Laws::checks), unfolding(outcome::specs::Outcome::and_then, crate::specs::Lengths::stream_length_for_c))]
+fn stream_length(version: u8, byte: u8, channels: u8, samples: u32) -> Result<usize, Error>
+    ensures { answered result ≡ stream_length_for_c version byte channels samples }
+{
+    let variant = Variant::try_from(byte)?;
+    if !sqv4_format::known_version(version) {
+        return Err(Error::UnsupportedVersion(version));
+    }
+    if !layout::channels_fit(version, channels) {
+        return Err(Error::InvalidChannels(channels));
+    }
+    Ok(layout::stream_length(Header {
+        version,
+        variant,
+        channels,
+        rate: 0,
+        samples,
+    }))
+}
+
+// Bytes of a whole stream of `samples` samples a channel.
+pub fn postlapse_stream_length(version: u8, variant: u8, channels: u8, samples: u32) -> Answer
+    ensures { result ≡ answer_of (stream_length_for_c version variant channels samples) }
+{
+    Answer::from(stream_length(version, variant, channels, samples))
+}
 
 // Encodes at the variant that a byte names.
 fn encode(

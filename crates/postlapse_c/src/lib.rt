@@ -7,11 +7,49 @@ ghost use Rattle.sqv4_format.specs.Inspect.{inspected, decode_call};
 ghost use Rattle.wav_format.specs.Samples.{samples_call};
 ghost use Rattle.wav_format.specs.Wave.{read_wave, read_strict};
 ghost use Rattle.wav_writer.specs.Writer.{write_call};
-ghost use Rattle.postlapse.specs.Answers.{header_answer_of, wave_answer_of};
+ghost use Rattle.postlapse.specs.Answers.{answer_of, header_answer_of, wave_answer_of};
 ghost use Rattle.postlapse.specs.Promises.{encode_for_c, fragment_for_c, Fills, Decodes, Plays, PlaysByValue};
+ghost use Rattle.postlapse.specs.Lengths.{library_version, fragment_size_for_c, frame_count_for_c, stream_length_for_c};
 
 use postlapse::{Answer, FragmentAnswer, HeaderAnswer, WaveAnswer};
 use sqv4_format::State;
+
+// The library's version as a number: major * 10000 + minor * 100 + patch.
+#[unsafe(no_mangle)]
+pub extern "C" fn postlapse_version() -> u32
+    ensures { result ≡ library_version }
+{
+    postlapse::postlapse_version()
+}
+
+// Bytes of a fragment.
+#[unsafe(no_mangle)]
+pub extern "C" fn postlapse_fragment_size(version: u8, variant: u8) -> Answer
+    ensures { result ≡ answer_of (fragment_size_for_c version variant) }
+{
+    postlapse::postlapse_fragment_size(version, variant)
+}
+
+// Frames of a stream of `samples` samples a channel.
+#[unsafe(no_mangle)]
+pub extern "C" fn postlapse_frame_count(version: u8, samples: u32) -> Answer
+    ensures { result ≡ answer_of (frame_count_for_c version samples) }
+{
+    postlapse::postlapse_frame_count(version, samples)
+}
+
+// Bytes of a whole stream of `samples` samples a channel.
+#[unsafe(no_mangle)]
+pub extern "C" fn postlapse_stream_length(
+    version: u8,
+    variant: u8,
+    channels: u8,
+    samples: u32,
+) -> Answer
+    ensures { result ≡ answer_of (stream_length_for_c version variant channels samples) }
+{
+    postlapse::postlapse_stream_length(version, variant, channels, samples)
+}
 
 // Encodes interleaved samples into `out`, as a stream of version 3, and answers its length.
 #[unsafe(no_mangle)]
@@ -117,7 +155,7 @@ pub extern "C" fn postlapse_write_wave(
 }
 
 // Each export is the call of its name: a promise changed together with its body away from the header for C would pass the proofs, and the
-// program `replay` asks the crate postlapse. The answers are 01's: case 3, case 7, and a file with a byte behind its RIFF end.
+// program `replay` asks the crate postlapse. The answers are 01's: cases 1, 3 and 7, and a file with a byte behind its RIFF end.
 #[cfg(test)]
 mod tests {
     use super::*;
@@ -141,11 +179,41 @@ mod tests {
         )
     }
 
+    // What an answer of a count says.
+    fn counted(a: Answer) -> (usize, usize, usize) {
+        (a.refusal, a.first, a.second)
+    }
+
+    // Every version and variant, and frames that end at 63 samples and at 64.
+    #[test]
+    fn lengths(rt: HostRuntime) {
+        assert_eq!(rt; postlapse_version(), 10000);
+        assert_eq!(rt; counted(postlapse_fragment_size(1, 0)), (0, 33, 0));
+        assert_eq!(rt; counted(postlapse_fragment_size(1, 1)), (0, 25, 0));
+        assert_eq!(rt; counted(postlapse_fragment_size(1, 2)), (0, 25, 0));
+        assert_eq!(rt; counted(postlapse_fragment_size(2, 0)), (0, 33, 0));
+        assert_eq!(rt; counted(postlapse_fragment_size(2, 1)), (0, 25, 0));
+        assert_eq!(rt; counted(postlapse_fragment_size(2, 2)), (0, 25, 0));
+        assert_eq!(rt; counted(postlapse_fragment_size(3, 0)), (0, 34, 0));
+        assert_eq!(rt; counted(postlapse_fragment_size(3, 1)), (0, 26, 0));
+        assert_eq!(rt; counted(postlapse_fragment_size(3, 2)), (0, 26, 0));
+        assert_eq!(rt; counted(postlapse_fragment_size(4, 3)), (8, 3, 0));
+        assert_eq!(rt; counted(postlapse_fragment_size(4, 2)), (7, 4, 0));
+        assert_eq!(rt; counted(postlapse_frame_count(3, 64)), (0, 2, 0));
+        assert_eq!(rt; counted(postlapse_frame_count(2, 64)), (0, 1, 0));
+        assert_eq!(rt; counted(postlapse_frame_count(0, 64)), (7, 0, 0));
+        assert_eq!(rt; counted(postlapse_stream_length(3, 0, 2, 64)), (0, 152, 0));
+        assert_eq!(rt; counted(postlapse_stream_length(2, 1, 1, 65)), (0, 66, 0));
+        assert_eq!(rt; counted(postlapse_stream_length(4, 3, 3, 64)), (8, 3, 0));
+        assert_eq!(rt; counted(postlapse_stream_length(4, 2, 3, 64)), (7, 4, 0));
+        assert_eq!(rt; counted(postlapse_stream_length(3, 2, 3, 64)), (1, 3, 0));
+    }
+
     #[test]
     fn streams(rt: HostRuntime) {
         let mut stream = [0u8; 50];
         let a = postlapse_encode(&[1000], 1, 8000, 0, 255, &mut stream);
-        assert_eq!(rt; (a.refusal, a.first, a.second), (0, 50, 0));
+        assert_eq!(rt; counted(a), (0, 50, 0));
         assert_eq!(rt; stream, STREAM);
         let h = postlapse_inspect(&STREAM);
         assert_eq!(rt; said(h), (0, 3, 0, 1, 8000, 1));
@@ -187,11 +255,11 @@ mod tests {
         assert_eq!(rt; postlapse_read_strict_wave(&WAVE).refusal, 42);
         let mut pcm = [0i16; 1];
         let a = postlapse_load_samples(&WAVE[44..46], &mut pcm);
-        assert_eq!(rt; (a.refusal, a.first, a.second), (0, 1, 0));
+        assert_eq!(rt; counted(a), (0, 1, 0));
         assert_eq!(rt; pcm, [1000]);
         let mut file = [9u8; 47];
         let a = postlapse_write_wave(1, 8000, &[1000], &mut file);
-        assert_eq!(rt; (a.refusal, a.first, a.second), (0, 46, 0));
+        assert_eq!(rt; counted(a), (0, 46, 0));
         assert_eq!(rt; file, WAVE);
     }
 }
