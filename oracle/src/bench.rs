@@ -14,7 +14,7 @@ mod paper;
 #[allow(dead_code)]
 mod print;
 #[allow(dead_code)]
-#[path = "../../rust/postlapse.rs"]
+#[path = "../../rust/src/raw.rs"]
 mod postlapse;
 
 /// The reference, unchanged, as in main.rs.

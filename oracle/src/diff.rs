@@ -9,6 +9,7 @@ mod convert;
 mod guard;
 #[allow(dead_code)]
 mod input;
+mod lengths;
 #[allow(dead_code)]
 mod lists;
 mod longest;
@@ -16,7 +17,7 @@ mod memory;
 mod paper;
 mod pointers;
 #[allow(dead_code)]
-#[path = "../../rust/postlapse.rs"]
+#[path = "../../rust/src/raw.rs"]
 mod postlapse;
 #[allow(dead_code)]
 mod print;
@@ -74,7 +75,8 @@ fn longest() -> Tally {
 /// All groups: `n` random inputs of each, and those that are the same at every run.
 fn compare(n: u64, seed: u64) -> Tally {
     let (mut random, mut tally) = (seeded(seed), Tally::new());
-    let groups: [Group; 8] = [
+    let groups: [Group; 9] = [
+        ("lengths", lengths::random),
         ("sounds", sound),
         ("random streams", random_streams),
         ("encoded streams", encoded_streams),
@@ -94,7 +96,8 @@ fn compare(n: u64, seed: u64) -> Tally {
     (0..n.div_ceil(1000)).for_each(|_| whole_converter(&mut tally, &mut random));
     listed_conversions(&mut tally, &mut random);
 
-    let whole: [Group; 5] = [
+    let whole: [Group; 6] = [
+        ("all lengths", lengths::all),
         ("all header bytes", header_bytes),
         ("all steps", steps),
         ("all volumes", volumes),
@@ -116,7 +119,7 @@ fn compare(n: u64, seed: u64) -> Tally {
     tally
 }
 
-/// The refusals of each call, all of which are asked in guarded memory.
+/// The refusals of each call that is lent memory, all of which are asked in guarded memory.
 const REFUSALS: [(&str, &[usize]); 9] = [
     ("encode", &[8, 1, 2, 3, 4, 13]),
     ("inspect", &[5, 6, 7, 8, 1, 9, 2, 10, 11, 12]),

@@ -5,7 +5,7 @@
 use crate::ask::{Numbers, answered, fragment_answered, header_answered, wave_answered};
 use crate::lists::{self, RATE, Random};
 use crate::postlapse::State;
-use crate::postlapse::raw::*;
+use crate::postlapse::archive::*;
 use crate::tally::Tally;
 use crate::{fragment_bytes, random_stream, samples};
 use std::ptr::{NonNull, null_mut};

@@ -1,0 +1,106 @@
+//! What to do about a refusal, by what the file looks like. Nothing is decided here: the refusal stands already.
+use postlapse::Refusal;
+
+/// The refusal of a file that should have been a WAV, in words.
+pub fn not_encoded(refusal: Refusal, file: &[u8]) -> String {
+    let Format { encoding, channels, bits } = format_of(file).unwrap_or_default();
+    let mend = format!("; try sox IN.wav -b 16{} OUT.wav", if channels > 2 { " -c 2" } else { "" });
+    match refusal {
+        Refusal::NotWave => not_a_wave(file),
+        Refusal::RiffEnd if is_from_a_pipe(file) => {
+            "the WAV was written to a pipe, so that its header does not say how long it is: write it to a file, or try sox \
+             --ignore-length IN.wav -b 16 OUT.wav"
+                .into()
+        }
+        Refusal::Encoding => {
+            let kind = match encoding {
+                1 => format!("has {bits} bits a sample"),
+                3 => "has floating-point samples".into(),
+                6 => "has A-law samples".into(),
+                7 => "has mu-law samples".into(),
+                0xfffe => format!("has an EXTENSIBLE header (channels: {channels}, bits: {bits})"),
+                _ => format!("has the encoding {encoding}"),
+            };
+            // Of other sizes of samples sox makes a WAV without sound.
+            let mend = if encoding == 1 && ![8, 24, 32].contains(&bits) { "" } else { &mend };
+            format!("the WAV {kind}, and plain 16-bit PCM is taken{mend}")
+        }
+        Refusal::WaveChannels if channels == 0 => "the WAV's header says 0 channels: the file is damaged".into(),
+        Refusal::WaveChannels => format!("the WAV has {channels} channels, and 1 or 2 are taken{mend}"),
+        Refusal::RiffEnd
+        | Refusal::ChunkHeader
+        | Refusal::ChunkEnd
+        | Refusal::DataChunk
+        | Refusal::Inconsistent
+        | Refusal::PartialFrame => format!("{refusal}{mend}"),
+        Refusal::FormatChunk | Refusal::NoFormat => format!("{refusal}: the file is damaged"),
+        _ => refusal.to_string(),
+    }
+}
+
+/// The refusal of a file that should have been a stream, in words.
+pub fn not_a_stream(refusal: Refusal, file: &[u8]) -> String {
+    if file.is_empty() {
+        return "the file is empty".into();
+    }
+    match refusal {
+        Refusal::TruncatedHeader | Refusal::InvalidMagic if file.starts_with(b"RIFF") => {
+            "this is a WAV file, not an SQV4 file; postlapse encode makes one of it".into()
+        }
+        _ => refusal.to_string(),
+    }
+}
+
+/// What the sound of a stream, decoded, cannot be written as.
+pub fn not_written(refusal: Refusal) -> String {
+    match refusal {
+        Refusal::DataSize | Refusal::RiffSize => format!("{refusal}; decode one channel at a time, with -c"),
+        _ => refusal.to_string(),
+    }
+}
+
+fn not_a_wave(file: &[u8]) -> String {
+    let begins = |letters: &[u8]| file.starts_with(letters);
+    let kind = match file {
+        [] => return "the file is empty".into(),
+        _ if begins(b"SQV4") => return "this is an SQV4 file already; postlapse decode makes a WAV of it".into(),
+        _ if begins(b"RF64") || begins(b"BW64") => "an RF64 file, a WAV for over 4 GB",
+        _ if begins(b"RIFX") => "a RIFX file, a WAV with its bytes the other way around",
+        _ if begins(b"RIFF") => "a RIFF file without sound of its own, or cut",
+        _ if begins(b"ID3") || matches!(file, [0xff, second, ..] if second & 0xe0 == 0xe0) => "an MP3 file",
+        _ if begins(b"OggS") => "an Ogg file",
+        _ if begins(b"fLaC") => "a FLAC file",
+        _ if begins(b"FORM") => "an AIFF file",
+        _ if file.get(4..8) == Some(b"ftyp") => "an MP4 file",
+        _ => return "this is not a WAV file; of most other sound files ffmpeg -i IN OUT.wav makes one".into(),
+    };
+    format!("this is {kind}, not a plain WAV file; try ffmpeg -i IN -c:a pcm_s16le OUT.wav")
+}
+
+/// Programs that cannot go back to the header leave a length of 0 or the largest there.
+fn is_from_a_pipe(file: &[u8]) -> bool {
+    matches!(field(file, 4, 4), Some(0 | 0x7fff_0000..=0x8000_ffff | 0xffff_0000..))
+}
+
+#[derive(Default)]
+struct Format {
+    encoding: u32,
+    channels: u32,
+    bits: u32,
+}
+
+/// The first fmt chunk, where there is one.
+fn format_of(file: &[u8]) -> Option<Format> {
+    let mut at = 12;
+    while file.get(at..at + 4)? != b"fmt " {
+        let size = field(file, at + 4, 4)? as usize;
+        at += 8 + size + size % 2;
+    }
+    let read = |offset| field(file, at + 8 + offset, 2);
+    Some(Format { encoding: read(0)?, channels: read(2)?, bits: read(14)? })
+}
+
+fn field(file: &[u8], at: usize, size: usize) -> Option<u32> {
+    let bytes = file.get(at..at + size)?;
+    Some(bytes.iter().rev().fold(0, |n, byte| n << 8 | u32::from(*byte)))
+}
