@@ -1,7 +1,7 @@
 /* Postlapse: the SQV4 voice codec and 16-bit WAV files, for C.
  *
- * Link with libpostlapse.a (`tools/build library` writes it to target/staticlib). The archive is for x86-64 Linux, and needs
- * nothing of others but memcpy and memset.
+ * Link with libpostlapse.a (`tools/build library` writes it to target/staticlib). The archive is for x86-64 Linux and a processor
+ * of level x86-64-v2 (SSE4.2), which it does not check, and needs nothing of others but memcpy and memset.
  *
  * Each call answers for every input, by value. It takes no heap, keeps nothing between calls, and may run in several threads at
  * once. Where `refusal` is 0 the call has done what it says; it fills its output from the front, and later places stay as they
@@ -67,12 +67,56 @@
 extern "C" {
 #endif
 
+/* The version of this header: 10000 for 1.0.0 (major * 10000 + minor * 100 + patch). */
+#define POSTLAPSE_VERSION 10000
+
 /* The variant, as the byte of a stream: codes of 4 bits (H) or of 3 bits (L, L+). */
 #define POSTLAPSE_VARIANT_H 0
 #define POSTLAPSE_VARIANT_L 1
 #define POSTLAPSE_VARIANT_L_PLUS 2
 
-/* A count or a refusal: `first` is how many elements were written where `refusal` is 0. */
+/* A name for each number of the table above. An answer's `refusal` holds one of these numbers. */
+enum postlapse_refusal {
+    POSTLAPSE_DONE = 0,
+    POSTLAPSE_INVALID_CHANNELS = 1,
+    POSTLAPSE_ZERO_SAMPLE_RATE = 2,
+    POSTLAPSE_MISALIGNED_INTERLEAVED_SAMPLES = 3,
+    POSTLAPSE_TOO_MANY_SAMPLES = 4,
+    POSTLAPSE_TRUNCATED_HEADER = 5,
+    POSTLAPSE_INVALID_MAGIC = 6,
+    POSTLAPSE_UNSUPPORTED_VERSION = 7,
+    POSTLAPSE_INVALID_VARIANT = 8,
+    POSTLAPSE_INVALID_RESERVED_BYTE = 9,
+    POSTLAPSE_INVALID_FILE_LENGTH = 10,
+    POSTLAPSE_INVALID_STEP_INDEX = 11,
+    POSTLAPSE_NON_ZERO_PADDING = 12,
+    POSTLAPSE_OUTPUT_TOO_SHORT = 13,
+    POSTLAPSE_INVALID_FRAGMENT = 14,
+    POSTLAPSE_INVALID_STATE = 15,
+    POSTLAPSE_NOT_WAVE = 20,
+    POSTLAPSE_RIFF_END = 21,
+    POSTLAPSE_CHUNK_HEADER = 22,
+    POSTLAPSE_CHUNK_END = 23,
+    POSTLAPSE_FORMAT_CHUNK = 24,
+    POSTLAPSE_DATA_CHUNK = 25,
+    POSTLAPSE_NO_FORMAT = 26,
+    POSTLAPSE_ENCODING = 27,
+    POSTLAPSE_WAVE_CHANNELS = 28,
+    POSTLAPSE_ZERO_WAVE_RATE = 29,
+    POSTLAPSE_BYTE_RATE = 30,
+    POSTLAPSE_INCONSISTENT = 31,
+    POSTLAPSE_NO_DATA = 32,
+    POSTLAPSE_PARTIAL_FRAME = 33,
+    POSTLAPSE_WRITER_CHANNELS = 34,
+    POSTLAPSE_DATA_SIZE = 35,
+    POSTLAPSE_RIFF_SIZE = 36,
+    POSTLAPSE_WRITER_BYTE_RATE = 37,
+    POSTLAPSE_STRICT_FORMAT = 40,
+    POSTLAPSE_STRICT_ORDER = 41,
+    POSTLAPSE_STRICT_END = 42
+};
+
+/* A count or a refusal: `first` is how many elements were written where `refusal` is 0, or the number that was asked for. */
 typedef struct {
     size_t refusal;
     size_t first;
@@ -114,9 +158,27 @@ typedef struct {
     size_t index;
 } postlapse_state;
 
+/* The version of the archive, to compare with POSTLAPSE_VERSION. */
+uint32_t postlapse_version(void);
+
+/* The words of the table above for a number. It is defined in libpostlapse_words.a, from c/words.c, which no other call needs. 0 is
+ * "done", 38, which the programs alone print, has words too, and any other number is "unknown refusal": the answer is never null. */
+const char *postlapse_words(size_t refusal);
+
+/* Bytes of a fragment, in `first`. Those of version 3 have 34 bytes (H) or 26 (L, L+); in versions 1 and 2 fragments have 33 bytes (H) or
+ * 25 (L, L+). Refuses 8, 7, in this order. */
+postlapse_answer postlapse_fragment_size(uint8_t version, uint8_t variant);
+
+/* Frames of a stream of `samples` samples a channel, in `first`. A frame holds 63 samples per channel in version 3, 64 in versions 1
+ * and 2, the last one those that remain. Refuses 7. */
+postlapse_answer postlapse_frame_count(uint8_t version, uint32_t samples);
+
+/* Bytes of a whole stream of `samples` samples a channel, in `first`: 16 + frames * channels * fragment size.
+ * Refuses 8, 7, 1, in this order. */
+postlapse_answer postlapse_stream_length(uint8_t version, uint8_t variant, uint8_t channels, uint32_t samples);
+
 /* Encodes interleaved samples into `out`, as a stream of version 3, and answers its length in bytes. A gain of 255 leaves the samples
- * as they are, and 0 silences them. The length is 16 + frames * channels * fragment size, for frames of 63 samples per channel and
- * fragments of 34 bytes (H) or 26 (L, L+); a call with `room` 0 returns it with refusal 13.
+ * as they are, and 0 silences them. The length is that of postlapse_stream_length; a call with `room` 0 returns it with refusal 13.
  * Refuses 8, 1, 2, 3, 4, 13, in this order. */
 postlapse_answer postlapse_encode(const int16_t *pcm, size_t count, uint8_t channels, uint32_t rate, uint8_t variant, uint8_t gain,
                                   uint8_t *out, size_t room);
@@ -130,10 +192,10 @@ postlapse_header_answer postlapse_inspect(const uint8_t *file, size_t size);
 postlapse_header_answer postlapse_decode(const uint8_t *file, size_t size, int16_t *out, size_t room);
 
 /* Decodes the first `count` samples of one fragment, from its channel's state. Channel c's fragment of frame f, both from 0, begins at
- * byte 16 + (f * channels + c) * fragment size of a stream; in versions 1 and 2 fragments have 33 bytes (H) or 25 (L, L+) and frames
- * 64 samples per channel. Versions 1 and 2 answer the state after the last sample, from which the channel's next fragment goes on.
- * Version 3 starts each fragment anew, so that any can be decoded by itself, and answers the given state; an index byte above 88
- * counts as 88. Refuses 8, 7, 14, 15, in this order. */
+ * byte 16 + (f * channels + c) * fragment size of a stream; postlapse_fragment_size says how long it is. At most a frame's samples are
+ * asked for, 63 in version 3, 64 in versions 1 and 2. Versions 1 and 2 answer the state after the last sample, from which the channel's
+ * next fragment goes on. Version 3 starts each fragment anew, so that any can be decoded by itself, and answers the given state; an
+ * index byte above 88 counts as 88. Refuses 8, 7, 14, 15, in this order. */
 postlapse_fragment_answer postlapse_decode_fragment(uint8_t version, uint8_t variant, int32_t predictor, size_t index,
                                                     const uint8_t *fragment, size_t size, int16_t *out, size_t count);
 
