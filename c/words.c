@@ -40,7 +40,7 @@ const char *postlapse_words(size_t refusal) {
     case POSTLAPSE_WRITER_BYTE_RATE: return "to be written: byte rate over 32 bits";
     /* the programs alone have 38, so that the header has no name for it */
     case 38: return "program input under 2 or over 65,536 bytes";
-    case POSTLAPSE_STRICT_FORMAT: return "strict: fmt chunk not 16 long";
+    case POSTLAPSE_STRICT_FORMAT: return "strict: fmt chunk neither 16 nor 18 bytes long";
     case POSTLAPSE_STRICT_ORDER: return "strict: data before fmt";
     case POSTLAPSE_STRICT_END: return "strict: bytes after the RIFF end";
     default: return "unknown refusal";

@@ -48,7 +48,7 @@
  *   35  to be written: data bytes over 32 bits
  *   36  to be written: data bytes + 36 over 32 bits
  *   37  to be written: byte rate over 32 bits
- *   40  strict: fmt chunk not 16 long
+ *   40  strict: fmt chunk neither 16 nor 18 bytes long
  *   41  strict: data before fmt
  *   42  strict: bytes after the RIFF end
  *
@@ -208,7 +208,8 @@ postlapse_answer postlapse_decode_fragment_lent(uint8_t version, uint8_t variant
  * Refuses 20 and 21, then 22, 23, 24, 25 where met in the file, then 26 to 33 in order. */
 postlapse_wave_answer postlapse_read_wave(const uint8_t *file, size_t size);
 
-/* The same for a file with a plain fmt chunk, then data, and nothing after the RIFF end. Refuses 40, 41, 42 after the others. */
+/* The same, where the fmt chunk has 16 or 18 bytes (the last two of 18 are ignored) and stands before the data, and nothing stands after
+ * the RIFF end. Other chunks may stand anywhere. Refuses what postlapse_read_wave refuses, then 40, 41, 42 in this order. */
 postlapse_wave_answer postlapse_read_strict_wave(const uint8_t *file, size_t size);
 
 /* Sample bytes, as a WAV file has them, to `size` / 2 numbers, and how many there are. Refuses 13. */

@@ -81,7 +81,7 @@ table! {
     35 DataSize "the samples are too many for a WAV file, which holds 4,294,967,295 bytes of them at most";
     36 RiffSize "the samples are too many for a WAV file, whose length is counted in 32 bits";
     37 WriterByteRate "the sample rate is too high for a WAV file, whose bytes a second are counted in 32 bits";
-    40 StrictFormat "the WAV's fmt chunk is not 16 bytes long";
+    40 StrictFormat "the WAV's fmt chunk is neither 16 nor 18 bytes long";
     41 StrictOrder "the WAV's data stands before its fmt chunk";
     42 StrictEnd "there are bytes after the end that the WAV's header says";
 }

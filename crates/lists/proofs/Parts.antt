@@ -2,10 +2,12 @@
 use mathlib.Core.Path.{◌≡◌, refl, sym, ap, ◌∙◌}
 use mathlib.Core.List.{List, [], ◌++◌, append_assoc, append-nil}
 use Prim.Native.Nat.{ℕ, ◌+◌, ◌-◌, ◌≤◌}
+use native.Mathlib.Omega.{arith}
 use native.Mathlib.Nat.{add-zero, zero-add, add_assoc, le_of_eq, add-sub_cancel_left}
-use lib.ListN.{length, take, drop, length-append, length-drop, take-append-drop, drop_of_length-le}
+use lib.ListN.{length, get_or, take, drop, length-append, length-drop, take-append-drop, drop_of_length-le}
 use lib.Seq.{take_at, drop-drop, drop-append-add, length-take-le, take_all}
-use Rattle.lists.specs.Lists.{written}
+use Rattle.std.proofs.lemmas.List.{get_or-take, get_or-drop, take-take, drop-take}
+use Rattle.lists.specs.Lists.{written, SameBut}
 
 -- the part from `at` to `at + len`, whose length a lent part has as its end less its start
 module _ {A : Type 0} (at len : ℕ) (l : List A) where
@@ -52,3 +54,25 @@ module _ {A : Type 0} (out : List A) (at : ℕ) (h : at ≤ length out) where
       → take from now ++ (v ++ drop (from + len - from) (drop from now)) ≡ written out at (x ++ y)
   unfolding written
   more_written x y {now} {v} {from} {len} ef el en ev = part_put from len now ev ∙ rw (ef, el, en) (then_written x y)
+
+-- ---- lists that differ only in a part
+
+module _ {A : Type 0} {from to : ℕ} {l m : List A} (same : SameBut from to l m) where
+  pub same_before : (at n : ℕ) → at + n ≤ from → take n (drop at m) ≡ take n (drop at l)
+  same_before at n h = cut m ∙ ap (λ k. drop at (take (at + n) k)) same.before ∙ sym (cut l)
+    where
+      cut : (k : List A) → take n (drop at k) ≡ drop at (take (at + n) (take from k))
+      cut k = sym (drop-take at n k) ∙ ap (drop at) (sym (take-take (at + n) from k h))
+
+  pub same_behind : (at n : ℕ) → to ≤ at → take n (drop at m) ≡ take n (drop at l)
+  same_behind at n h = ap (take n) (cut m ∙ ap (drop (at - to)) same.behind ∙ sym (cut l))
+    where
+      cut : (k : List A) → drop at k ≡ drop (at - to) (drop to k)
+      cut k = sym (drop-drop (at - to) to k ∙ ap (λ i. drop i k) (omega arith))
+
+-- a part of one place
+pub same_place : {A : Type 0} (l m : List A) (at : ℕ) (d : A) → take 1 (drop at m) ≡ take 1 (drop at l) → get_or m at d ≡ get_or l at d
+same_place {A = A} l m at d e = first m ∙ ap (λ k. get_or k 0 d) e ∙ sym (first l)
+  where
+    first : (k : List A) → get_or k at d ≡ get_or (take 1 (drop at k)) 0 d
+    first k = sym (get_or-take 1 (drop at k) 0 d (omega arith) ∙ get_or-drop at k 0 d ∙ ap (λ i. get_or k i d) (omega arith))

@@ -1,5 +1,5 @@
--- Lists by index, a list written into another, and the least of a numbered family. Assumes nothing.
-use Rattle.std.specs.Prelude.{ℕ, zero, suc, ◌+◌, cond, List, [], ◌∷◌, ◌++◌, ltb, length, take, drop}
+-- Lists by index, a list written into another, lists that differ only in a part, and the least of a numbered family. Assumes nothing.
+use Rattle.std.specs.Prelude.{◌≡◌, ℕ, zero, suc, ◌+◌, cond, List, [], ◌∷◌, ◌++◌, ltb, length, take, drop}
 
 -- f 0, f 1, .., f (n − 1)
 unfoldable pub tabulate {ℓ} : {A : Type ℓ} → (ℕ → A) → ℕ → List A
@@ -14,6 +14,12 @@ joined f (suc n) = joined f n ++ f n
 -- an output with a list from a place on: the places before and behind it don't change
 unfoldable pub written : {A : Type 0} → List A → ℕ → List A → List A
 written out at xs = (take at out ++ xs) ++ drop (at + length xs) out
+
+-- m is as long as l, and the same before place `from` and from place `to` on
+pub record SameBut {A : Type 0} (from to : ℕ) (l m : List A) : Type 0 where
+  pub long : length m ≡ length l
+  pub before : take from m ≡ take from l
+  pub behind : drop to m ≡ drop to l
 
 -- of f 0, f 1, .., f n the one that costs least; the first of them where several do
 unfoldable pub least : {A : Type 0} → (A → ℕ) → (ℕ → A) → ℕ → A

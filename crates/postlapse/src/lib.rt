@@ -383,7 +383,7 @@ pub fn postlapse_read_wave(file: &[u8]) -> WaveAnswer
     WaveAnswer::from(wav::read_pcm16_wave(file))
 }
 
-// The same for a file without leftovers.
+// The same for a file with a fmt chunk of 16 or 18 bytes, then data, and nothing after the RIFF end.
 pub fn postlapse_read_strict_wave(file: &[u8]) -> WaveAnswer
     ensures { result ≡ wave_answer_of (read_strict file.now) }
 {

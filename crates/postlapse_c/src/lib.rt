@@ -123,7 +123,7 @@ pub extern "C" fn postlapse_read_wave(file: &[u8]) -> WaveAnswer
     postlapse::postlapse_read_wave(file)
 }
 
-// The same for a file without leftovers.
+// The same for a file with a fmt chunk of 16 or 18 bytes, then data, and nothing after the RIFF end.
 #[unsafe(no_mangle)]
 pub extern "C" fn postlapse_read_strict_wave(file: &[u8]) -> WaveAnswer
     ensures { result ≡ wave_answer_of (read_strict file.now) }

@@ -2,7 +2,7 @@
 #![tactic(auto)]
 
 ghost use Rattle.std.specs.Prelude.{◌≡◌};
-ghost use Rattle.wav_format.specs.Wave.{check_format, check_chunks, check_strict};
+ghost use Rattle.wav_format.specs.Wave.{check_format, check_chunks, strict_size, check_strict};
 ghost use Rattle.outcome.specs.Table.{answered};
 
 use outcome::Error;
@@ -51,12 +51,20 @@ pub fn check_chunks(end: usize, c: Chunks) -> Result<Wave, Error>
     })
 }
 
+// Whether strict reading accepts a fmt chunk of this size.
+#[tactic(auto, unfolding(wav_format::specs::Wave::strict_size))]
+fn strict_size(size: usize) -> bool
+    ensures { result ≡ strict_size size }
+{
+    size == 16 || size == 18
+}
+
 // The checks 40 to 42, on a file that plain reading accepts.
-#[tactic(auto, using(outcome::proofs::Laws::checks), unfolding(wav_format::specs::Wave::check_strict, wav_format::specs::Wave::strict_size))]
+#[tactic(auto, using(outcome::proofs::Laws::checks), unfolding(wav_format::specs::Wave::check_strict))]
 pub fn check_strict(file: &[u8], w: Wave) -> Result<Wave, Error>
     ensures { answered result ≡ check_strict file.now w }
 {
-    if w.format.size != 16 {
+    if !strict_size(w.format.size) {
         return Err(Error::StrictFormat);
     }
     if w.samples.start < w.format.start {

@@ -1,6 +1,8 @@
 pub mod Steps
 pub mod Walk
+pub mod Found
 pub mod Within
+pub mod Ignored
 pub mod Plain
 pub mod Checks
 pub mod Claims

@@ -1,5 +1,6 @@
 -- Each refusal of reading a WAV file, as a test that computes: inputs that give it, the neighbours across its bound, which don't, and
--- its place in the order: where later causes hold too it is still this one. The expectations are 01's. Assumes nothing.
+-- its place in the order: where later causes hold too it is still this one. The expectations are 01's, and of 40 also 02's. Assumes
+-- nothing.
 use Rattle.std.specs.Prelude.{◌≡◌, ℕ, ◌+◌, ◌-◌, ◌*◌, ◌%◌, Bool, ◌&&◌, List, [], ◌∷◌, ◌++◌, eqb, ℤ, pos, negsuc, length, get_or, set, take, drop, replicate}
 use Rattle.outcome.specs.Outcome.{refused}
 use Rattle.outcome.specs.Tests.{gives, accepts, refuses}
@@ -16,11 +17,11 @@ use Rattle.wav_format.specs.declared.Wave.{Wave}
 abbrev riff : ℕ → List ℕ → List ℕ
 riff size chunks = 82 ∷ 73 ∷ 70 ∷ 70 ∷ (stored 4 size ++ (87 ∷ 65 ∷ 86 ∷ 69 ∷ chunks))
 
-abbrev file : List ℕ → List ℕ
+abbrev pub file : List ℕ → List ℕ
 file chunks = riff (4 + length chunks) chunks
 
 -- four letters, a size, and contents, which may have another
-abbrev fmt_of : ℕ → List ℕ → List ℕ
+abbrev pub fmt_of : ℕ → List ℕ → List ℕ
 fmt_of size contents = 102 ∷ 109 ∷ 116 ∷ 32 ∷ (stored 4 size ++ contents)
 
 abbrev data_of : ℕ → List ℕ → List ℕ
@@ -30,7 +31,7 @@ abbrev list_of : ℕ → List ℕ → List ℕ
 list_of size contents = 76 ∷ 73 ∷ 83 ∷ 84 ∷ (stored 4 size ++ contents)
 
 -- encoding, channels, rate, byte rate, alignment, bits; mono at 8000 and stereo at 44100
-abbrev fields : ℕ → ℕ → ℕ → ℕ → ℕ → ℕ → List ℕ
+abbrev pub fields : ℕ → ℕ → ℕ → ℕ → ℕ → ℕ → List ℕ
 fields encoding channels rate byteRate align bits =
     stored 2 encoding ++ stored 2 channels ++ stored 4 rate ++ stored 4 byteRate ++ stored 2 align ++ stored 2 bits
 
@@ -44,7 +45,7 @@ stereo = fields 1 2 44100 176400 4 16
 abbrev fmt : List ℕ → List ℕ
 fmt contents = fmt_of 16 contents
 
-abbrev pcm : ℕ → List ℕ
+abbrev pub pcm : ℕ → List ℕ
 pcm n = data_of n (replicate n 0)
 
 abbrev odd_pcm : ℕ → List ℕ
@@ -239,15 +240,33 @@ strict channels rate start size s = gives (saying channels rate start size) (rea
 abbrev pub strict_refused : ℕ → List ℕ → Bool
 strict_refused n s = refuses n [] (read_strict s)
 
-abbrev long_fmt : ℕ → List ℕ
-long_fmt n = fmt_of n (mono ++ replicate (n + n % 2 - 16) 0)
+-- a file of one sample, byte by byte, with a fmt chunk of 18 bytes, of which a and b are the last two
+abbrev pub extended : ℕ → ℕ → List ℕ
+extended a b =
+    82 ∷ 73 ∷ 70 ∷ 70 ∷ 40 ∷ 0 ∷ 0 ∷ 0 ∷ 87 ∷ 65 ∷ 86 ∷ 69 ∷ 102 ∷ 109 ∷ 116 ∷ 32 ∷ 18 ∷ 0 ∷ 0 ∷ 0 ∷ 1 ∷ 0 ∷ 1 ∷ 0 ∷ 64 ∷ 31 ∷ 0 ∷ 0 ∷ 128 ∷ 62 ∷ 0 ∷ 0
+    ∷ 2 ∷ 0 ∷ 16 ∷ 0 ∷ a ∷ b ∷ 100 ∷ 97 ∷ 116 ∷ 97 ∷ 2 ∷ 0 ∷ 0 ∷ 0 ∷ 1 ∷ 0 ∷ []
 
--- fmt not 16 long: 17, 18, 19 and 40. Before 41 and 42
+-- a fmt chunk of n bytes and its pad byte; those behind the first sixteen are x
+abbrev sized : ℕ → ℕ → List ℕ
+sized n x = fmt_of n (take (n + n % 2) (mono ++ replicate n x))
+
+-- in each order of fmt and data, without and with a byte after the RIFF end: refused with m; accepted, or refused with 42, 41, 41
+abbrev sized_refused : ℕ → ℕ → Bool
+sized_refused m n =
+    every (λ c. strict_refused m (file c) && strict_refused m (file c ++ (0 ∷ []))) ((sized n 0 ++ pcm 2) ∷ (pcm 2 ++ sized n 0) ∷ [])
+
+abbrev sized_accepted : ℕ → ℕ → Bool
+sized_accepted n x =
+    strict 1 8000 (28 + n) 2 (file (sized n x ++ pcm 2)) && strict_refused 42 (file (sized n x ++ pcm 2) ++ (0 ∷ []))
+    && strict_refused 41 (file (pcm 2 ++ sized n x)) && strict_refused 41 (file (pcm 2 ++ sized n x) ++ (0 ∷ []))
+
+-- fmt neither 16 nor 18 long: 17, 19, 20, 40, and sizes that end in the byte 16 or 18; 14 and 15 are 24, as in plain reading, and another
+-- encoding is 27. Before 41 and 42. The last two of 18 bytes may be anything
 abbrev strict40 : Bool
 strict40 =
-    every (λ n. strict_refused 40 (file (long_fmt n ++ pcm 2))) (17 ∷ 18 ∷ 19 ∷ 40 ∷ []) && strict 1 8000 44 2 (file (long_fmt 16 ++ pcm 2))
-    && strict_refused 40 (file (pcm 2 ++ long_fmt 18)) && strict_refused 40 (file (long_fmt 18 ++ pcm 2) ++ (0 ∷ []))
-    && strict_refused 40 (file (pcm 2 ++ long_fmt 18) ++ (0 ∷ []))
+    every (λ n. sized_refused 24 n) (14 ∷ 15 ∷ []) && every (λ n. sized_refused 40 n) (17 ∷ 19 ∷ 20 ∷ 40 ∷ 272 ∷ 274 ∷ [])
+    && sized_accepted 16 0 && every (λ x. sized_accepted 18 x) (0 ∷ 22 ∷ 255 ∷ []) && strict 1 8000 46 2 (extended 22 0)
+    && every (λ n. strict_refused 27 (file (fmt_of n (fields 65534 1 8000 16000 2 16 ++ replicate (n - 16) 0) ++ pcm 2))) (18 ∷ 40 ∷ [])
 
 -- data before fmt, of any size, next to it or not; other chunks may stand anywhere. Before 42
 abbrev strict41 : Bool

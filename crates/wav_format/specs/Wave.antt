@@ -1,4 +1,5 @@
--- Reading a WAV file, from 01 and Microsoft's RIFF/WAVE PCM format. Numbers of refusals are those of 01's table. Assumes nothing.
+-- Reading a WAV file, from 01, 02 (strict reading) and Microsoft's RIFF/WAVE PCM format. Numbers of refusals are those of 01's table.
+-- Assumes nothing.
 use Rattle.std.specs.Prelude.{ℕ, zero, suc, ◌+◌, ◌-◌, ◌*◌, ◌%◌, Bool, ◌&&◌, ◌||◌, Option, Some, None, is_some, List, [], ltb, eqb, length, get_or}
 use Rattle.outcome.specs.Outcome.{Outcome, result, refused, refuse_if, need, branch, ◌⟫◌, and_then}
 use Rattle.digits.specs.Digits.{field}
@@ -139,9 +140,9 @@ read_wave s =
 
 -- ---- strict reading (added): after plain acceptance 40, 41, 42
 
--- a fmt size that strict reading accepts
+-- "Strict reading must accept 16 or 18" (02), the sizes of a fmt chunk
 unfoldable pub strict_size : ℕ → Bool
-strict_size size = eqb size 16
+strict_size size = eqb size 16 || eqb size 18
 
 unfoldable pub check_strict : List ℕ → Wave → Outcome Wave
 check_strict s w =

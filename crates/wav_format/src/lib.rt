@@ -27,7 +27,7 @@ pub struct Chunks {
     pub samples: Option<Part>,
 }
 
-// What a WAV file says, and where its samples lie. `sqv4_format` and `end`, the RIFF end, are for strict reading.
+// What a WAV file says, and where its samples lie. `format` and `end`, the RIFF end, are for strict reading.
 #[derive(Clone, Copy)]
 pub struct Wave {
     pub channels: u16,

@@ -1,5 +1,6 @@
 -- A written file is read back, plainly and strictly, and its samples are those that were written. Assumes nothing.
 use mathlib.Core.Path.{◌≡◌, refl, sym, ◌∙◌, ap}
+use mathlib.Core.Logic.{inl}
 use mathlib.Core.Bool.{true}
 use mathlib.Core.List.{List}
 use Prim.Native.Nat.{ℕ, suc, ◌+◌, ◌*◌, ◌-◌, ◌/◌, ◌%◌, ◌≤◌, ◌<◌}
@@ -226,7 +227,7 @@ module _ (channels rate : ℕ) (samples : List ℤ) (room : ℕ) {bytes : List �
     -- strict reading gives the same
     pub strict-written : read_strict bytes ≡ result (wave_read channels rate (2 * length samples))
     strict-written =
-        strict-accepts bytes (wave_read channels rate (2 * length samples)) read-written refl (omega arith) (length_written ∙ end_said bytes _ read-written)
+        strict-accepts bytes (wave_read channels rate (2 * length samples)) read-written (inl refl) (omega arith) (length_written ∙ end_said bytes _ read-written)
 
     -- the part of the file that is shown is the samples' bytes
     pub part-written : part_of bytes (read_wave bytes) ≡ sample_bytes samples
