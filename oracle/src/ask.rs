@@ -380,7 +380,18 @@ pub fn wave(tally: &mut Tally, random: &mut Random, file: &[u8]) {
     );
     if let Ok(Wave { start, size, .. }) = plain {
         load(tally, random, &file[start..start + size]);
+        other_field(tally, file, numbers(&strict));
     }
+}
+
+/// Asks the strict reader for a file again with the last two bytes of a fmt chunk of 18 changed: the answer must stay the same.
+fn other_field(tally: &mut Tally, file: &[u8], strict: Numbers) {
+    let paper::Layout { format, format_size: 18, .. } = paper::layout(file) else { return };
+    let mut other = file.to_vec();
+    other[format + 16..format + 18].iter_mut().for_each(|byte| *byte = !*byte);
+    let file = lent(tally.placement(), &other);
+    let ask = || wave_answered(ours::read_strict_wave(&file));
+    ask_plain(tally, "other field", strict, ask, || format!("strict {}", hex(&other)));
 }
 
 /// Asks for these bytes as samples.

@@ -578,7 +578,7 @@ fn wave_file(tally: &mut Tally, random: &mut Random) {
     ask::wave(tally, random, &file);
 }
 
-/// The fields of a mono or stereo file with any rate, or with one damage or two.
+/// The fields of a mono or stereo file with any rate, or with one damage or two; at times cut, or with random bytes behind them.
 fn format_chunk(random: &mut Random) -> Vec<u8> {
     let fields = [MONO, STEREO][random.below(2)];
     let rate = [RATE, random.next() as u32 / fields.align as u32][random.below(2)];
@@ -586,8 +586,14 @@ fn format_chunk(random: &mut Random) -> Vec<u8> {
     for _ in 0..[0, 0, 0, 0, 0, 0, 1, 2][random.below(8)] {
         SPOILS[random.below(SPOILS.len())](&mut fields);
     }
-    let size = if rarely(random, 8) { [0, 14, 15, 17, 18, 40][random.below(6)] } else { 16 };
-    lists::chunk("fmt ", &lists::format_bytes(fields, size))
+    let size = match random.below(8) {
+        0 => [0, 14, 15, 17, 19, 20, 40][random.below(7)],
+        1 | 2 => 18,
+        _ => 16,
+    };
+    let mut bytes = lists::format_bytes(fields, size);
+    bytes.iter_mut().skip(16).for_each(|byte| *byte = random.byte());
+    lists::chunk("fmt ", &bytes)
 }
 
 /// Samples, mostly whole frames, at times with a size that is not theirs.

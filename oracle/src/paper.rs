@@ -1,5 +1,5 @@
-//! Rules of the scope paper, written from it alone: the sizes of frames and fragments, and what a call for C answers where the
-//! reference has no such call or no such refusal.
+//! Rules of the scope paper and of the change requests, written from these alone: the sizes of frames and fragments, and what a call
+//! for C answers where the reference has no such call or no such refusal.
 
 use crate::answer::Refusal;
 use crate::input::Room;
@@ -78,11 +78,11 @@ pub fn layout(file: &[u8]) -> Layout {
     layout
 }
 
-/// The checks 40, 41 and 42 of a file that plain reading accepts.
+/// The checks 40, 41 and 42 of a file that plain reading accepts. What the last two of 18 bytes hold does not matter.
 pub fn check_strict(file: &[u8]) -> Result<(), Refusal> {
     let Layout { format, format_size, data, end, .. } = layout(file);
     match () {
-        _ if format_size != 16 => refused(40, vec![]),
+        _ if format_size != 16 && format_size != 18 => refused(40, vec![]),
         _ if data < format => refused(41, vec![]),
         _ if end < file.len() => refused(42, vec![]),
         _ => Ok(()),

@@ -217,12 +217,12 @@ fn reading() -> String {
 /// 40 to 42: files that plain reading accepts, and what it refuses beside them.
 fn strict_reading() -> String {
     let (mono, data, odd) = (&format_chunk(MONO)[..], &chunk("data", &TWO)[..], &chunk("odd ", b"odd")[..]);
-    let (long, partial) = (&chunk("fmt ", &format_bytes(MONO, 18))[..], &chunk("data", &TWO[..3])[..]);
+    let (long, partial) = (&chunk("fmt ", &format_bytes(MONO, 20))[..], &chunk("data", &TWO[..3])[..]);
     let sized = |size| wave(&[&chunk("fmt ", &format_bytes(MONO, size)), data]);
     let behind = |file: Vec<u8>, more: &[u8]| [&file[..], more].concat();
     let good = wave(&[mono, data]);
     [
-        readers("40 but for 16", [16, 17, 18, 20, 40].map(sized).to_vec()),
+        readers("40 but for 16 and 18", [16, 17, 18, 19, 20, 40].map(sized).to_vec()),
         readers(
             "41 where data comes first",
             vec![
