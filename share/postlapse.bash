@@ -17,12 +17,15 @@ _postlapse() {
             encode:*) names="*.[wW][aA][vV]" ;;
             decode:* | check:* | inspect:*) names="*.[sS][qQ][vV]*" ;;
         esac
+        case $verb:" ${COMP_WORDS[*]:2:COMP_CWORD-2} " in
+            check:*" --strict "* | check:*" -s "* | check:*" -qs "* | check:*" -sq "*) names="*.[wW][aA][vV]" ;;
+        esac
     fi
     if [[ $word == -* ]]; then
         case $verb in
             encode) words="--output --variant --gain --force --quiet --help" ;;
             decode) words="--output --channel --force --quiet --help" ;;
-            check) words="--quiet --help" ;;
+            check) words="--strict --quiet --help" ;;
             convert) words="--variant --gain --force --quiet --help" ;;
             inspect) words="--quiet --help" ;;
         esac

@@ -29,7 +29,7 @@ pub mod wav;
 
 pub use refusal::Refusal;
 pub use sqv4::{decode, encode_interleaved, inspect, DecodedAudio, FragmentPlayer, Header, Variant};
-pub use wav::{read_pcm16_wave, read_strict_pcm16_wave, write_pcm16_wave, PcmWave};
+pub use wav::{read_pcm16_wave, read_strict_pcm16_wave, strict_info, write_pcm16_wave, PcmWave, WaveInfo};
 
 /// The library's version as a number, 10000 for 1.0.0.
 pub fn library_version() -> u32 {

@@ -165,12 +165,25 @@ fn waves_are_read_and_written() {
     assert_eq!(wav::read_pcm16_wave(&longer), Ok(wave.clone()));
     assert_eq!(wav::read_strict_pcm16_wave(&longer), Err(Refusal::StrictEnd));
     let turned = riff(&[DATA, &plain]);
-    assert_eq!(wav::read_pcm16_wave(&turned), Ok(wave));
+    assert_eq!(wav::read_pcm16_wave(&turned), Ok(wave.clone()));
     assert_eq!(wav::read_strict_pcm16_wave(&turned), Err(Refusal::StrictOrder));
-    let mut long = plain.clone();
-    long[4] = 18;
-    long.extend([0, 0]);
-    assert_eq!(wav::read_strict_pcm16_wave(&riff(&[&long, DATA])), Err(Refusal::StrictFormat));
+    let sized = |size: u8| {
+        let mut chunk = plain.clone();
+        chunk[4] = size;
+        chunk.resize(8 + usize::from(size + size % 2), 255);
+        riff(&[&chunk, DATA])
+    };
+    assert_eq!(wav::read_strict_pcm16_wave(&sized(18)), Ok(wave.clone()));
+    let form = wav::WaveInfo { channels: 1, sample_rate: 8000, samples_per_channel: 1 };
+    assert_eq!(wav::strict_info(&sized(18)), Ok(form));
+    assert_eq!(wav::strict_info(&sized(20)), Err(Refusal::StrictFormat));
+    let stereo = wav::write_pcm16_wave(2, 44100, &[0; 6]).unwrap();
+    let form = wav::WaveInfo { channels: 2, sample_rate: 44100, samples_per_channel: 3 };
+    assert_eq!(wav::strict_info(&stereo), Ok(form));
+    for size in [17, 19, 20, 40] {
+        assert_eq!(wav::read_pcm16_wave(&sized(size)), Ok(wave.clone()));
+        assert_eq!(wav::read_strict_pcm16_wave(&sized(size)), Err(Refusal::StrictFormat));
+    }
     assert_eq!(wav::write_pcm16_wave(3, 8000, &[1000]), Err(Refusal::WriterChannels));
     assert_eq!(wav::write_pcm16_wave(1, 1 << 31, &[1000]), Err(Refusal::WriterByteRate));
 }
@@ -199,6 +212,7 @@ fn waves_are_refused() {
     for (file, refusal) in refused {
         assert_eq!(wav::read_pcm16_wave(&file), Err(refusal));
         assert_eq!(wav::read_strict_pcm16_wave(&file), Err(refusal));
+        assert_eq!(wav::strict_info(&file), Err(refusal));
     }
 }
 

@@ -1,9 +1,11 @@
 //! What to do about a refusal, by what the file looks like. Nothing is decided here: the refusal stands already.
 use postlapse::Refusal;
 
+const BY_FFMPEG: &str = "; try ffmpeg -i IN -c:a pcm_s16le OUT.wav";
+
 /// The refusal of a file that should have been a WAV, in words.
 pub fn not_encoded(refusal: Refusal, file: &[u8]) -> String {
-    let Format { encoding, channels, bits } = format_of(file).unwrap_or_default();
+    let Format { encoding, channels, bits, .. } = format_of(file).unwrap_or_default();
     let mend = format!("; try sox IN.wav -b 16{} OUT.wav", if channels > 2 { " -c 2" } else { "" });
     match refusal {
         Refusal::NotWave => not_a_wave(file),
@@ -38,6 +40,33 @@ pub fn not_encoded(refusal: Refusal, file: &[u8]) -> String {
     }
 }
 
+/// The refusal of strict reading in words. sox reads no fmt chunk of odd size and none behind the data; ffmpeg does, but writes a
+/// header that is refused where the rate is above 48 kHz.
+pub fn not_strict(refusal: Refusal, file: &[u8]) -> String {
+    let Format { size, rate, .. } = format_of(file).unwrap_or_default();
+    let anew = if rate > 48000 { "; try ffmpeg -i IN -f au - | sox -t au - -b 16 OUT.wav" } else { BY_FFMPEG };
+    match refusal {
+        Refusal::NotWave if file.starts_with(b"SQV4") => {
+            "this is an SQV4 file, not a WAV file; postlapse check without --strict reads it".into()
+        }
+        Refusal::StrictFormat => {
+            format!("the WAV's fmt chunk has {size} bytes, and strict reading takes 16 or 18 (encode takes it){anew}")
+        }
+        Refusal::StrictOrder => {
+            format!("{refusal}, and strict reading takes data behind fmt (encode takes it){anew}")
+        }
+        Refusal::StrictEnd => {
+            let end = field(file, 4, 4).unwrap_or_default() as usize + 8;
+            let more = file.len() - end;
+            format!(
+                "the WAV ends at byte {end} by its header, and the {more} behind it strict reading refuses (encode leaves them \
+                 out); try sox IN.wav -b 16 OUT.wav"
+            )
+        }
+        _ => not_encoded(refusal, file),
+    }
+}
+
 /// The refusal of a file that should have been a stream, in words.
 pub fn not_a_stream(refusal: Refusal, file: &[u8]) -> String {
     if file.is_empty() {
@@ -45,7 +74,8 @@ pub fn not_a_stream(refusal: Refusal, file: &[u8]) -> String {
     }
     match refusal {
         Refusal::TruncatedHeader | Refusal::InvalidMagic if file.starts_with(b"RIFF") => {
-            "this is a WAV file, not an SQV4 file; postlapse encode makes one of it".into()
+            "this is a WAV file, not an SQV4 file; postlapse encode makes one of it, and check --strict looks at it"
+                .into()
         }
         _ => refusal.to_string(),
     }
@@ -74,7 +104,7 @@ fn not_a_wave(file: &[u8]) -> String {
         _ if file.get(4..8) == Some(b"ftyp") => "an MP4 file",
         _ => return "this is not a WAV file; of most other sound files ffmpeg -i IN OUT.wav makes one".into(),
     };
-    format!("this is {kind}, not a plain WAV file; try ffmpeg -i IN -c:a pcm_s16le OUT.wav")
+    format!("this is {kind}, not a plain WAV file{BY_FFMPEG}")
 }
 
 /// Programs that cannot go back to the header leave a length of 0 or the largest there.
@@ -84,8 +114,10 @@ fn is_from_a_pipe(file: &[u8]) -> bool {
 
 #[derive(Default)]
 struct Format {
+    size: u32,
     encoding: u32,
     channels: u32,
+    rate: u32,
     bits: u32,
 }
 
@@ -96,8 +128,14 @@ fn format_of(file: &[u8]) -> Option<Format> {
         let size = field(file, at + 4, 4)? as usize;
         at += 8 + size + size % 2;
     }
-    let read = |offset| field(file, at + 8 + offset, 2);
-    Some(Format { encoding: read(0)?, channels: read(2)?, bits: read(14)? })
+    let read = |offset, size| field(file, at + offset, size);
+    Some(Format {
+        size: read(4, 4)?,
+        encoding: read(8, 2)?,
+        channels: read(10, 2)?,
+        rate: read(12, 4)?,
+        bits: read(22, 2)?,
+    })
 }
 
 fn field(file: &[u8], at: usize, size: usize) -> Option<u32> {

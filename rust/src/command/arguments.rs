@@ -14,7 +14,10 @@ pub enum Verb {
         channel: Option<u8>,
     },
     Inspect,
-    Check,
+    /// SQV4 files, or WAV files by strict reading.
+    Check {
+        strict: bool,
+    },
 }
 
 pub struct Job {
@@ -37,6 +40,7 @@ postlapse makes SQV4 files, the voice clips of lift modules, of WAV files, and W
 usage: postlapse encode IN.wav..    make an SQV4 file of each WAV file
        postlapse decode IN.sqv4..   make a WAV file of each SQV4 file
        postlapse check FILE..       say of each SQV4 file whether it is sound
+       postlapse check --strict FILE.wav..   say of each WAV file whether strict reading takes it
        postlapse inspect FILE       print what an SQV4 file holds
        postlapse convert IN.wav OUT.sqv4 [H|L|L+] [GAIN]   encode, as older scripts call it
        postlapse help [VERB]        say more of one of these (also: postlapse VERB --help)
@@ -80,10 +84,17 @@ versions 1 and 2). Frames and channels count from 0.
 
 const CHECK: &str = "\
 usage: postlapse check FILE.. [-q]
+       postlapse check --strict FILE.wav.. [-q]
 
 prints a line for each SQV4 file: ok, with version, variant, channels, rate, seconds and bytes; or refused, with the number
 and why. Where one fragment is damaged the line has its frame and channel, which count from 0.
 
+With --strict it prints a line for each WAV file: ok, with channels, rate, seconds and bytes; or refused, with the number
+and why. Strict reading takes what encode takes, where the fmt chunk has 16 or 18 bytes (the last two of 18 are ignored)
+and stands before the data, and the file ends where its header says. Other chunks may stand anywhere. What is refused with
+40, 41 or 42 encode takes all the same.
+
+  -s, --strict         the files are WAV files, for strict reading
   -q, --quiet          only the files that are refused
 ";
 
@@ -99,16 +110,17 @@ const VERBS: [(&str, &str, &str); 5] = [
     ("encode", "ovgfq", ENCODE),
     ("decode", "ocfq", DECODE),
     ("inspect", "q", INSPECT),
-    ("check", "q", CHECK),
+    ("check", "sq", CHECK),
     ("convert", "vgfq", CONVERT),
 ];
 
 /// The long names of the options, and whether a value follows.
-const OPTIONS: [(char, &str, bool); 8] = [
+const OPTIONS: [(char, &str, bool); 9] = [
     ('o', "output", true),
     ('v', "variant", true),
     ('g', "gain", true),
     ('c', "channel", true),
+    ('s', "strict", false),
     ('f', "force", false),
     ('q', "quiet", false),
     ('h', "help", false),
@@ -145,7 +157,7 @@ pub fn read(words: impl Iterator<Item = OsString>) -> Result<Asked, String> {
         return Ok(Asked::Version);
     }
     let mut job = Job {
-        verb: Verb::Check,
+        verb: Verb::Check { strict: given('s').is_some() },
         inputs: names,
         output: given('o').map(OsStr::to_os_string),
         force: given('f').is_some(),
@@ -156,7 +168,7 @@ pub fn read(words: impl Iterator<Item = OsString>) -> Result<Asked, String> {
         "decode" => Verb::Decode { channel: given('c').map(channel).transpose()? },
         "inspect" if job.inputs.len() > 1 => return Err(misused("inspect takes one name", verb)),
         "inspect" => Verb::Inspect,
-        "check" => Verb::Check,
+        "check" => job.verb,
         _ => {
             if !(2..=4).contains(&job.inputs.len()) {
                 let words = "convert takes two names, and at most a variant and a gain (encode takes many files)";

@@ -82,7 +82,7 @@ fn all(job: &Job, items: &[Item]) -> u8 {
             Ok(words) => progress.done(&words),
             Err(Failure::Refused(words)) => {
                 // The verdict of `check` is its data, and stands on standard output.
-                if !matches!(job.verb, Verb::Check) {
+                if !matches!(job.verb, Verb::Check { .. }) {
                     progress.say(&format!("{}: {words}", item.from.input()));
                 }
                 status = status.max(1);
@@ -97,7 +97,10 @@ fn all(job: &Job, items: &[Item]) -> u8 {
 }
 
 fn one(job: &Job, item: &Item, progress: &Progress) -> Result<String, Failure> {
-    let wanted: &[u8] = if matches!(job.verb, Verb::Encode { .. }) { b"RIFF" } else { b"SQV4" };
+    let wanted: &[u8] = match job.verb {
+        Verb::Encode { .. } | Verb::Check { strict: true } => b"RIFF",
+        _ => b"SQV4",
+    };
     let file = files::read(&item.from, wanted)?;
     match job.verb {
         Verb::Encode { variant, gain } => {
@@ -112,7 +115,10 @@ fn one(job: &Job, item: &Item, progress: &Progress) -> Result<String, Failure> {
             written(job, item, seconds, &wave)
         }
         Verb::Inspect => inspected(&file, progress).map(|()| String::new()),
-        Verb::Check => checked(job, &item.from, &file, progress).map(|()| String::new()),
+        Verb::Check { strict } => {
+            let verdict = if strict { strictly_read(&file) } else { sound(&file) };
+            checked(job, &item.from, verdict, progress).map(|()| String::new())
+        }
     }
 }
 
@@ -177,16 +183,12 @@ fn inspected(file: &[u8], progress: &Progress) -> Result<(), Failure> {
     Ok(())
 }
 
-fn checked(job: &Job, from: &Place, file: &[u8], progress: &Progress) -> Result<(), Failure> {
+fn checked(job: &Job, from: &Place, verdict: Result<String, Failure>, progress: &Progress) -> Result<(), Failure> {
     let name = match from {
         Place::Standard => "-".into(),
         Place::File(path) => shown(path),
     };
-    let verdict = sqv4::inspect(file).map_err(|refusal| damaged(refusal, file));
-    let line = match &verdict {
-        Ok(header) => sound(header, file.len()),
-        Err(Failure::Refused(words) | Failure::File(words)) => words.clone(),
-    };
+    let (Ok(line) | Err(Failure::Refused(line) | Failure::File(line))) = &verdict;
     progress.done("");
     if verdict.is_err() || !job.quiet {
         files::printed(writeln!(io::stdout(), "{name}: {line}"))?;
@@ -194,8 +196,19 @@ fn checked(job: &Job, from: &Place, file: &[u8], progress: &Progress) -> Result<
     verdict.map(|_| ())
 }
 
-fn sound(header: &Header, bytes: usize) -> String {
+fn sound(file: &[u8]) -> Result<String, Failure> {
+    let header = sqv4::inspect(file).map_err(|refusal| damaged(refusal, file))?;
     let Header { version, variant, channels, sample_rate, samples_per_channel, .. } = header;
-    let seconds = *samples_per_channel as f64 / f64::from(*sample_rate);
-    format!("ok version {version} variant {variant} channels {channels} rate {sample_rate} seconds {seconds:.3} bytes {bytes}")
+    let rest = form(channels, sample_rate, samples_per_channel, file);
+    Ok(format!("ok version {version} variant {variant} {rest}"))
+}
+
+fn strictly_read(file: &[u8]) -> Result<String, Failure> {
+    let info = wav::strict_info(file).map_err(|refusal| refused(refusal, "", &advice::not_strict(refusal, file)))?;
+    Ok(format!("ok {}", form(info.channels, info.sample_rate, info.samples_per_channel, file)))
+}
+
+fn form(channels: u8, rate: u32, samples: usize, file: &[u8]) -> String {
+    let seconds = samples as f64 / f64::from(rate);
+    format!("channels {channels} rate {rate} seconds {seconds:.3} bytes {}", file.len())
 }

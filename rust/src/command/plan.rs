@@ -57,7 +57,7 @@ pub fn plan(job: &Job) -> Result<Vec<Item>, String> {
     let extension: Option<(&[&str], &str)> = match job.verb {
         Verb::Encode { .. } => Some((&["wav"], "sqv4")),
         Verb::Decode { .. } => Some((&["sqv4", "sqv"], "wav")),
-        Verb::Inspect | Verb::Check => None,
+        Verb::Inspect | Verb::Check { .. } => None,
     };
     let folder = job.output.as_deref().filter(|word| *word != "-").map(Path::new).filter(|path| is_folder(path));
     if let (Some(output), None, true) = (&job.output, folder, job.inputs.len() > 1) {
