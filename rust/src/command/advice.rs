@@ -1,18 +1,19 @@
 //! What to do about a refusal, by what the file looks like. Nothing is decided here: the refusal stands already.
 use postlapse::Refusal;
 
-const BY_FFMPEG: &str = "; try ffmpeg -i IN -c:a pcm_s16le OUT.wav";
-
 /// The refusal of a file that should have been a WAV, in words.
 pub fn not_encoded(refusal: Refusal, file: &[u8]) -> String {
-    let Format { encoding, channels, bits, .. } = format_of(file).unwrap_or_default();
-    let mend = format!("; try sox IN.wav -b 16{} OUT.wav", if channels > 2 { " -c 2" } else { "" });
+    let format = format_of(file);
+    let mend = format.as_ref().map(anew).unwrap_or_default();
+    let Format { encoding, channels, bits, .. } = format.unwrap_or_default();
     match refusal {
         Refusal::NotWave => not_a_wave(file),
         Refusal::RiffEnd if is_from_a_pipe(file) => {
-            "the WAV was written to a pipe, so that its header does not say how long it is: write it to a file, or try sox \
-             --ignore-length IN.wav -b 16 OUT.wav"
-                .into()
+            let two = if channels > 2 { " -c 2" } else { "" };
+            format!(
+                "the WAV was written to a pipe, so that its header does not say how long it is: write it to a file, or try sox \
+                 --ignore-length IN.wav -b 16{two} OUT.wav"
+            )
         }
         Refusal::Encoding => {
             let kind = match encoding {
@@ -40,30 +41,43 @@ pub fn not_encoded(refusal: Refusal, file: &[u8]) -> String {
     }
 }
 
-/// The refusal of strict reading in words. sox reads no fmt chunk of odd size and none behind the data; ffmpeg does, but writes a
-/// header that is refused where the rate is above 48 kHz.
+/// The refusal of strict reading in words.
 pub fn not_strict(refusal: Refusal, file: &[u8]) -> String {
-    let Format { size, rate, .. } = format_of(file).unwrap_or_default();
-    let anew = if rate > 48000 { "; try ffmpeg -i IN -f au - | sox -t au - -b 16 OUT.wav" } else { BY_FFMPEG };
-    match refusal {
+    let format = format_of(file).unwrap_or_default();
+    let words = match refusal {
         Refusal::NotWave if file.starts_with(b"SQV4") => {
-            "this is an SQV4 file, not a WAV file; postlapse check without --strict reads it".into()
+            return "this is an SQV4 file, not a WAV file; postlapse check without --strict reads it".into();
         }
         Refusal::StrictFormat => {
-            format!("the WAV's fmt chunk has {size} bytes, and strict reading takes 16 or 18 (encode takes it){anew}")
+            format!(
+                "the WAV's fmt chunk has {} bytes, and strict reading takes 16 or 18 (encode takes it)",
+                format.size
+            )
         }
-        Refusal::StrictOrder => {
-            format!("{refusal}, and strict reading takes data behind fmt (encode takes it){anew}")
-        }
+        Refusal::StrictOrder => format!("{refusal}, and strict reading takes data behind fmt (encode takes it)"),
         Refusal::StrictEnd => {
             let end = field(file, 4, 4).unwrap_or_default() as usize + 8;
             let more = file.len() - end;
             format!(
-                "the WAV ends at byte {end} by its header, and the {more} behind it strict reading refuses (encode leaves them \
-                 out); try sox IN.wav -b 16 OUT.wav"
+                "the WAV ends at byte {end} by its header, and the {more} behind it strict reading refuses (encode leaves them out)"
             )
         }
-        _ => not_encoded(refusal, file),
+        _ => return not_encoded(refusal, file),
+    };
+    words + &anew(&format)
+}
+
+/// What makes a WAV of the same sound that is taken. sox reads no fmt chunk of an odd size, none behind the data, and few encodings;
+/// ffmpeg does, but writes a header that is refused where the rate is above 48 kHz.
+fn anew(format: &Format) -> String {
+    let (sox, ffmpeg) = if format.channels > 2 { (" -c 2", " -ac 2") } else { ("", "") };
+    let encoded = matches!(format.encoding, 1 | 2 | 3 | 6 | 7 | 17 | 0xfffe);
+    if encoded && format.size % 2 == 0 && !format.behind_data {
+        format!("; try sox IN.wav -b 16{sox} OUT.wav")
+    } else if format.rate > 48000 {
+        format!("; try ffmpeg -i IN.wav -f au - | sox -t au - -b 16{sox} OUT.wav")
+    } else {
+        format!("; try ffmpeg -i IN.wav{ffmpeg} -c:a pcm_s16le OUT.wav")
     }
 }
 
@@ -73,7 +87,9 @@ pub fn not_a_stream(refusal: Refusal, file: &[u8]) -> String {
         return "the file is empty".into();
     }
     match refusal {
-        Refusal::TruncatedHeader | Refusal::InvalidMagic if file.starts_with(b"RIFF") => {
+        Refusal::TruncatedHeader | Refusal::InvalidMagic
+            if file.starts_with(b"RIFF") && file.get(8..12).is_none_or(|form| form == b"WAVE") =>
+        {
             "this is a WAV file, not an SQV4 file; postlapse encode makes one of it, and check --strict looks at it"
                 .into()
         }
@@ -104,7 +120,7 @@ fn not_a_wave(file: &[u8]) -> String {
         _ if file.get(4..8) == Some(b"ftyp") => "an MP4 file",
         _ => return "this is not a WAV file; of most other sound files ffmpeg -i IN OUT.wav makes one".into(),
     };
-    format!("this is {kind}, not a plain WAV file{BY_FFMPEG}")
+    format!("this is {kind}, not a plain WAV file; try ffmpeg -i IN -c:a pcm_s16le OUT.wav")
 }
 
 /// Programs that cannot go back to the header leave a length of 0 or the largest there.
@@ -114,6 +130,7 @@ fn is_from_a_pipe(file: &[u8]) -> bool {
 
 #[derive(Default)]
 struct Format {
+    behind_data: bool,
     size: u32,
     encoding: u32,
     channels: u32,
@@ -123,13 +140,15 @@ struct Format {
 
 /// The first fmt chunk, where there is one.
 fn format_of(file: &[u8]) -> Option<Format> {
-    let mut at = 12;
+    let (mut at, mut behind_data) = (12, false);
     while file.get(at..at + 4)? != b"fmt " {
+        behind_data |= file[at..].starts_with(b"data");
         let size = field(file, at + 4, 4)? as usize;
         at += 8 + size + size % 2;
     }
     let read = |offset, size| field(file, at + offset, size);
     Some(Format {
+        behind_data,
         size: read(4, 4)?,
         encoding: read(8, 2)?,
         channels: read(10, 2)?,
