@@ -1,12 +1,12 @@
 -- The loop of a trial: the first i samples are coded, and state and sum are the definition's. Assumes nothing.
 use mathlib.Core.Path.{◌≡◌, refl}
 use mathlib.Core.List.{List}
-use Prim.Native.Nat.{ℕ, zero, suc, ◌+◌, ◌-◌, ◌*◌, ◌≤◌, ◌<◌}
-use native.Mathlib.Nat.{zero-add, suc-add}
+use Prim.Native.Nat.{ℕ, suc, ◌+◌, ◌*◌, ◌≤◌, ◌<◌}
 use native.Mathlib.Numerals.{add-one}
 use native.Mathlib.Omega.{arith}
 use lib.IntN.{ℤ, pos, nat_abs, ◌-ℤ◌}
 use lib.ListN.{length, get_or}
+use Rattle.lists.proofs.ByIndex.{rises}
 use Rattle.sqv4_format.specs.Layout.{encoder_version}
 use Rattle.sqv4_format.specs.Step.{stepped}
 use Rattle.sqv4_format.specs.Gain.{output_gain}
@@ -42,13 +42,9 @@ module _ (k : Settings) (v : ℕ) (xs : List ℤ) (index : ℕ) where
       }
 
   -- sums do not fall
-  pub rises : (i j : ℕ) → (trial_to k v xs index i).sum ≤ (trial_to k v xs index (j + i)).sum
+  no_less : (i : ℕ) → (trial_to k v xs index i).sum ≤ (trial_to k v xs index (suc i)).sum
   unfolding trial_to trial_step
-  rises i zero = rw zero-add (omega arith)
-  rises i (suc j) = rw suc-add (omega (arith, rises i j))
+  no_less i = omega arith
 
   pub over_limit : {i : ℕ} {sum : ℕ} {s : State} → Summed i s sum → sum ≤ (trial_to k v xs index (length xs)).sum
-  over_limit {i} d =
-      let e : length xs - i + i ≡ length xs = omega (arith, d.within) in
-      let r = rw e at (rises i (length xs - i)) in
-      omega (arith, d.total)
+  over_limit d = omega (arith, d.total, rises (λ i. (trial_to k v xs index i).sum) no_less _ (length xs) d.within)

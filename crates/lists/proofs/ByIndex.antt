@@ -1,8 +1,8 @@
--- Lists by index: what stands at each index, and the parts of joined lists. Assumes nothing.
-use mathlib.Core.Path.{◌≡◌, refl, sym, ◌∙◌, ap}
+-- Lists by index: what stands at each index, and the parts of joined lists; numbers by index. Assumes nothing.
+use mathlib.Core.Path.{◌≡◌, refl, sym, ◌∙◌, ap, subst}
 use Prim.Native.Nat.{ℕ, zero, suc, ◌+◌, ◌*◌, ◌-◌, ◌≤◌, ◌<◌, min}
 use native.Mathlib.Omega.{arith}
-use native.Mathlib.Nat.{mul-le-mul_right, le_of_eq}
+use native.Mathlib.Nat.{mul-le-mul_right, le_of_eq, zero-add, suc-add, sub-add_cancel}
 use native.Mathlib.Numerals.{add-one}
 use native.Mathlib.Decide.{dec_lt}
 use mathlib.Core.List.{List, [], ◌∷◌, ◌++◌}
@@ -118,3 +118,13 @@ module _ {A : Type 0} (g : ℕ → A) (n : ℕ) where
         long = simp length-set f.long;
         done = fill_next g r i x (omega (arith, f.long)) f.done e;
       }
+
+-- ---- numbers by index
+
+-- where no number is less than the one before it, none is less than any before it
+pub rises : (f : ℕ → ℕ) → ((i : ℕ) → f i ≤ f (suc i)) → (i j : ℕ) → i ≤ j → f i ≤ f j
+rises f step i j h = subst (λ (n : ℕ). f i ≤ f n) (sub-add_cancel h) (later (j - i))
+  where
+    later : (n : ℕ) → f i ≤ f (n + i)
+    later zero = rw zero-add (omega arith)
+    later (suc n) = rw suc-add (omega (arith, later n, step (n + i)))

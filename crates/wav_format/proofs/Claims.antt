@@ -50,14 +50,14 @@ format_refusal_tested n encoding channels rate byte_rate align bits = refuses_me
 pub strict-refuses : (s : List ℕ) (n : ℕ) (vs : List ℕ) → read_wave s ≡ refused n vs → read_strict s ≡ refused n vs
 strict-refuses = proofs.Within.strict_refused_lem
 
--- what it gives, plain reading gives
-pub strict_gives : (s : List ℕ) (w : Wave) → read_strict s ≡ result w → read_wave s ≡ result w
-strict_gives = proofs.Within.strict_read
-
 -- and for no other reason: with fmt 16 or 18 long, data not before fmt and no bytes after the RIFF end it gives what plain reading gives
 pub strict-accepts : (s : List ℕ) (w : Wave) → read_wave s ≡ result w → (w.format.size ≡ 16) ⊎ (w.format.size ≡ 18)
     → w.format.start ≤ w.samples.start → length s ≡ riff_end s → read_strict s ≡ result w
 strict-accepts = proofs.Within.strict-accepted
+
+-- what it gives, plain reading gives
+pub strict_gives : (s : List ℕ) (w : Wave) → read_strict s ≡ result w → read_wave s ≡ result w
+strict_gives = proofs.Within.strict_read
 
 -- "17, 19 and more still give 40": each size but 16 and 18 of a file that plain reading accepts
 pub strict_size_refused : (s : List ℕ) (w : Wave) → read_wave s ≡ result w → w.format.size ≢ 16 → w.format.size ≢ 18 → read_strict s ≡ refused 40 []

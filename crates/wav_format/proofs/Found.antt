@@ -1,13 +1,13 @@
 -- What the walk over the chunks has found stands in the file as one of them. Assumes nothing.
 use mathlib.Core.Path.{◌≡◌, refl, ap, subst}
-use mathlib.Core.Bool.{true, false}
+use mathlib.Core.Bool.{true}
 use mathlib.Core.List.{List}
-use Prim.Native.Nat.{ℕ, zero, suc, ◌+◌, ◌-◌, ◌≤◌}
+use Prim.Native.Nat.{ℕ, suc, ◌+◌, ◌≤◌}
 use native.Mathlib.Omega.{arith}
-use native.Mathlib.Nat.{zero-add, suc-add, sub-add_cancel}
-use Rattle.std.specs.Prelude.{Some, None}
+use Rattle.std.specs.Prelude.{Some}
+use Rattle.std.proofs.lemmas.Option.{none-some}
+use Rattle.lists.proofs.ByIndex.{rises}
 use Rattle.outcome.specs.Outcome.{result}
-use Rattle.outcome.proofs.Flags.{not_both}
 use Rattle.outcome.proofs.Laws.{cleared}
 use Rattle.wav_format.specs.Wave.{letters_at, size_at, padded_end, format_at, passed_over, with_format, with_data, chunk_step, first_chunk, walk}
 use Rattle.wav_format.specs.Extended.{chunk_start}
@@ -21,12 +21,8 @@ module _ (s : List ℕ) where
   unfolding chunk_start
   next_start k = refl
 
-  later : (k j : ℕ) → chunk_start s k ≤ chunk_start s (j + k)
-  later k zero = rw zero-add (omega arith)
-  later k (suc j) = rw suc-add (omega (arith, later k j, next_start (j + k)))
-
   pub starts_rise : (j k : ℕ) → j ≤ k → chunk_start s j ≤ chunk_start s k
-  starts_rise j k h = subst (λ (n : ℕ). chunk_start s j ≤ chunk_start s n) (sub-add_cancel h) (later j (k - j))
+  starts_rise = rises (λ k. chunk_start s k) (λ k. omega (arith, next_start k))
 
   -- the part is the contents of chunk `number`, which has these letters
   pub record Contents (a b c d : ℕ) (p : Part) : Type 0 where
@@ -42,12 +38,9 @@ module _ (s : List ℕ) where
     pub format : (f : Format) → c.format ≡ Some f → Contents 102 109 116 32 f.part
     pub samples : (p : Part) → c.samples ≡ Some p → Contents 100 97 116 97 p
 
-  nothing : {A : Type 0} {P : Type 0} {a : A} → None ≡ Some a → P
-  nothing e = let z : true ≡ false = cc in absurd (not_both true refl z)
-
   pub found_first : Found first_chunk
   unfolding chunk_start
-  found_first = record { number = 0; at = refl; format = λ f e. nothing e; samples = λ p e. nothing e }
+  found_first = record { number = 0; at = refl; format = λ f e. absurd (none-some f e); samples = λ p e. absurd (none-some p e) }
 
   -- a part that is the contents of the chunk where the walk is
   here : {a b x y : ℕ} (c : Chunks) (p : Part) → Found c → letters_at s c.at a b x y ≡ true → record { start = c.at + 8; size = size_at s c.at } ≡ p → Contents a b x y p
