@@ -153,6 +153,27 @@ fn a_player_that_refuses_stays_as_it_was() {
     assert_eq!(answer.refusal, Refusal::InvalidState.number());
 }
 
+/// The call for C with a lent state stores the two fields, and leaves the bytes between them, which C's struct has, as they were.
+#[test]
+fn a_lent_state_keeps_the_bytes_between() {
+    let fragment = [0x5a; 33];
+    for version in [1, 2, 3] {
+        let mut memory = [u64::MAX; 2];
+        let mut out = [0; 60];
+        let state = memory.as_mut_ptr().cast::<raw::State>();
+        // SAFETY: the memory is as large as a state and aligned, and the other pointers are valid for their lengths.
+        let answer = unsafe {
+            (&raw mut (*state).predictor).write(5);
+            (&raw mut (*state).index).write(6);
+            let (size, count) = (if version == 3 { 26 } else { 25 }, out.len());
+            raw::archive::postlapse_decode_fragment_lent(version, 1, state, fragment.as_ptr(), size, out.as_mut_ptr(), count)
+        };
+        assert_eq!(answer.refusal, 0);
+        assert_eq!(memory[0] >> 32, 0xffff_ffff, "version {version}");
+        assert_eq!(memory[1] != 6, version < 3);
+    }
+}
+
 #[test]
 fn waves_are_read_and_written() {
     let plain = format(1, 1, 8000, 16000, 2, 16);

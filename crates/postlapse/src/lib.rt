@@ -354,7 +354,9 @@ pub fn postlapse_decode_fragment_lent(
 {
     let played = play(version, variant, *state, fragment, out);
     if moves(version, &played.answer) {
-        *state = played.state;
+        // Field by field: a caller's bytes between the two, which C's struct has, stay as they were.
+        state.predictor = played.state.predictor;
+        state.index = played.state.index;
     }
     Answer::from(played.answer)
 }
