@@ -1,7 +1,7 @@
 // Printing for the programs: words and decimal numbers, one behind the other in a lent output.
 #![tactic(auto)]
 
-ghost use Rattle.std.specs.Prelude.{◌≡◌, ◌++◌, ◌≤◌, length, take};
+ghost use Rattle.std.specs.Prelude.{◌≡◌, ◌++◌, ◌+◌, ◌≤◌, length, take};
 ghost use Rattle.text.specs.Text.{decimal};
 
 use itoa::Buffer;
@@ -49,10 +49,11 @@ impl<'a> Printer<'a> {
         self.at = end;
     }
 
-    // A decimal number.
-    #[tactic(auto, using(crate::proofs::Laws::spelled))]
+    // A decimal number, which has at most 20 digits.
+    #[tactic(auto, using(crate::proofs::Laws::spelled, crate::proofs::Laws::decimal_few))]
     pub fn number(&mut self, n: u64)
-        ensures { Printed self.old (decimal n) self.new }
+        ensures prints { Printed self.old (decimal n) self.new }
+        ensures few { self.new.at ≤ self.old.at + 20 }
     {
         let mut buffer = Buffer::new();
         self.put(buffer.format(n).as_bytes());
@@ -60,7 +61,8 @@ impl<'a> Printer<'a> {
 
     // A label and a decimal number.
     pub fn field(&mut self, label: &[u8], n: u64)
-        ensures { Printed self.old (label.now ++ decimal n) self.new }
+        ensures prints { Printed self.old (label.now ++ decimal n) self.new }
+        ensures few { self.new.at ≤ self.old.at + length label.now + 20 }
     {
         self.put(label);
         self.number(n);

@@ -10,4 +10,4 @@ returns-in-Zero-clause-prints c = rw c.in-Zero.is (printed_none _)
 
 pub returns-in-Two-clause-prints : goal.returns-in-Two-clause-prints
 unfolding spaced_values letters
-returns-in-Two-clause-prints c = rw c.in-Two.is (then_printed c.field-in-Two.ensures (then_printed c.field-in-Two-2.ensures (printed_none _)))
+returns-in-Two-clause-prints c = rw c.in-Two.is (then_printed c.field-in-Two.ensures.prints (then_printed c.field-in-Two-2.ensures.prints (printed_none _)))

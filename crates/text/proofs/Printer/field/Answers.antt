@@ -2,5 +2,5 @@
 use Rattle.text.proofs.Laws.{then_printed}
 use Rattle.text.proofs.Printer.field.Goals as goal
 
-pub returns : goal.returns
-returns c = then_printed c.put.ensures c.number.ensures
+pub returns-clause-prints : goal.returns-clause-prints
+returns-clause-prints c = then_printed c.put.ensures c.number.ensures.prints
