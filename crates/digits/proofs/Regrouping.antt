@@ -133,10 +133,17 @@ pub record Regrouped (a b : ℕ) (ds : List ℕ) (n : ℕ) (out : List ℕ) (acc
   pub long : length out ≡ n
   pub written : take j out ≡ digits b j (number a ds)
   pub held : Held a b ds acc have j (drop i ds)
+  pub place : b * j + have ≡ a * i
 
 pub regrouped_none : (a b : ℕ) (ds : List ℕ) {n : ℕ} {out : List ℕ} → length out ≡ n → Regrouped a b ds n out 0 0 0 0
 unfolding digits
-regrouped_none a b ds e = record { within = omega arith; long = e; written = refl; held = held_none a b ds }
+regrouped_none a b ds e = record {
+  within = omega arith;
+  long = e;
+  written = refl;
+  held = held_none a b ds;
+  place = omega (arith, mul-zero a, mul-zero b);
+}
 
 module _ {a b n : ℕ} {ds out : List ℕ} {acc have i j : ℕ} (r : Regrouped a b ds n out acc have i j) where
   -- a group of g digits is read, as one number
@@ -147,6 +154,7 @@ module _ {a b n : ℕ} {ds out : List ℕ} {acc have i j : ℕ} (r : Regrouped a
     long = r.long;
     written = r.written;
     held = rw (drop-drop g i ds) at (held_read r.held g (small_drop a ds small i) e);
+    place = omega (arith, r.place, mul-add a i g);
   }
 
   -- a digit is written, and the rest is held
@@ -157,4 +165,5 @@ module _ {a b n : ℕ} {ds out : List ℕ} {acc have i j : ℕ} (r : Regrouped a
     long = simp length-set r.long;
     written = written_more b (number a ds) out r.written (omega (arith, r.long)) (low ∙ held_low r.held rest e);
     held = held_high r.held rest e high;
+    place = omega (arith, r.place, mul-add b j 1, mul-one b);
   }
