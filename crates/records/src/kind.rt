@@ -1,4 +1,4 @@
-ghost use Rattle.std.specs.Prelude.{◌≡◌, ◌<◌, MatchResult};
+ghost use Rattle.std.specs.Prelude.{◌≡◌, ◌<◌, ◌≤◌, MatchResult};
 ghost use Rattle.records.specs.Kinds.{number_of};
 
 // What a question is put to.
@@ -40,5 +40,15 @@ impl TryFrom<u8> for Kind {
             10 => Ok(Kind::SampleReader),
             _ => Err(UnknownKind),
         }
+    }
+}
+
+impl Kind {
+    // The kind of a question that begins with this byte: the inspector's where it names none.
+    pub fn of(number: u8) -> Kind
+        ensures named { 0 < number → number ≤ 10 → number_of result ≡ number }
+        ensures unnamed { (0 < number → 10 < number) → number_of result ≡ 6 }
+    {
+        Kind::try_from(number).unwrap_or(Kind::Inspector)
     }
 }

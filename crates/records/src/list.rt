@@ -1,4 +1,5 @@
-ghost use Rattle.std.specs.Prelude.{◌≡◌, true, take, Some};
+ghost use Rattle.std.specs.Prelude.{◌≡◌, ◌↔◌, true};
+ghost use Rattle.records.specs.Bytes.{answer_bytes};
 
 use crate::{Question, front};
 use commands::{OUTPUT_SIZE, READ_AT_MOST};
@@ -42,7 +43,8 @@ fn read_front<R: Read>(list: &mut R, buffer: &mut [u8], size: u32) -> Result<(),
     }
 }
 
-// Whether the answer to a question is the one that was recorded. What is asked answers None where it has no answer, so that `?` leaves it.
+// Whether the answer to a question is the one that was recorded. What is asked answers None where it has no answer, so that `?` leaves it:
+// that counts as an answer of no bytes, whatever was put before.
 // It stands as a parameter in each function here, with its clause. Tried: a struct that keeps both, but the check does not read a closure's
 // predicates in a ghost field, and takes no `&dyn Fn` as a field.
 fn is_answered<F: Fn(Question, &mut Printer) -> Option<()>>(
@@ -51,12 +53,15 @@ fn is_answered<F: Fn(Question, &mut Printer) -> Option<()>>(
     ask: &F,
 ) -> bool
     requires { F.IsAlwaysCallable ask.now }
-    ensures { result ≡ true → (page : _) × (after : _) × F.post ask.now (record { rest = question.entry }) page (Some tt) after
-        × (take after.now.at after.now.out.now ≡ answer.now) }
+    ensures { (page : _) × (given : _) × (after : _) × F.post ask.now (record { rest = question.entry }) page given after
+        × ((result ≡ true) ↔ (answer_bytes given after.now ≡ answer.now)) }
 {
     let mut out = [0u8; OUTPUT_SIZE];
     let mut page = Printer::new(&mut out);
-    ask(Question { rest: question }, &mut page).is_some() && page.text() == answer
+    match ask(Question { rest: question }, &mut page) {
+        Some(()) => page.text() == answer,
+        None => answer.is_empty(),
+    }
 }
 
 // Tries the next record, and says whether its answer is the one that was recorded; none at the list's end. A record is the sizes of its

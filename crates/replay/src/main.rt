@@ -212,7 +212,7 @@ fn put_read(answer: &mut Printer, file: &[u8], a: WaveAnswer, samples: &[u8]) ->
 
 // Asks a question, and puts its answer. None where it has none, so that `?` leaves it.
 fn ask(mut question: Question, answer: &mut Printer) -> Option<()> {
-    let kind = Kind::try_from(question.get_u8()).ok()?;
+    let kind = Kind::of(question.get_u8());
     let rest = question.rest;
     match kind {
         Kind::Encoder => ask_encoder(question, answer),
