@@ -210,7 +210,7 @@ fn put_read(answer: &mut Printer, file: &[u8], a: WaveAnswer, samples: &[u8]) ->
     Some(())
 }
 
-// Asks a question, and puts its answer. None where it has none, so that `?` leaves it.
+// Asks a question, and puts its answer. None where it has none, so that `?` leaves it: that counts as an answer of no bytes.
 fn ask(mut question: Question, answer: &mut Printer) -> Option<()> {
     let kind = Kind::of(question.get_u8());
     let rest = question.rest;
