@@ -1,12 +1,12 @@
 -- `digits::unused_bits_zero` meets its contract: no bit is set in the bytes after that of the first unused bit, nor from that bit on in it.
 -- Assumes nothing.
 use mathlib.Core.Path.{◌≡◌, sym, ap, ap₂, ◌∙◌}
-use Prim.Native.Nat.{ℕ, ◌+◌, ◌*◌, ◌/◌, ◌%◌, ◌^◌, ◌<◌}
+use Prim.Native.Nat.{ℕ, ◌+◌, ◌*◌, ◌/◌, ◌%◌, ◌^◌, ◌≤◌, ◌<◌}
 use native.Mathlib.Omega.{arith}
 use borrow.Author.Rules.{rules}
 use borrow.Author.Tests.{tests}
 use lib.Dec.{eqb}
-use lib.ListN.{get_or, drop, length}
+use lib.ListN.{get_or, drop, length, length-drop}
 use lib.Pow.{shr-shr}
 use lib.Seq.{get_or-drop}
 use Rattle.std.specs.Prelude.{MatchBool, ◌≢◌}
@@ -14,18 +14,27 @@ use Rattle.std.specs.List.{AllWithin, HoldsAt}
 use Rattle.std.proofs.lemmas.Grind.{common_steps}
 use Rattle.std.proofs.lemmas.Iterator.{cases_from_all, YieldsList-from_slice}
 use Rattle.digits.specs.Digits.{number}
-use Rattle.digits.proofs.Laws.{Small, rest_none, rest_last, rest_set}
+use Rattle.digits.proofs.Laws.{Small, rest_none, rest_less, rest_last, rest_set}
 use Rattle.digits.proofs.unused_bits_zero.Goals as goal
 use Rattle.digits.proofs.unused_bits_zero.Goals.{After-all}
 
--- what the bytes after byte k are
-after : (c : After-all) → c.unwrap_or-after.result.now ≡ drop (c.args.used / 8 + 1) c.args.payload.now
+-- the bytes looked at are those after byte k
+after : (c : After-all) → c.iter.result.rest.now ≡ drop (c.args.used / 8 + 1) c.args.payload.now
 after c = grind (arith, common_steps)
 
 zeros : (c : After-all) → let xs = drop (c.args.used / 8 + 1) c.args.payload.now in MatchBool c.all.result (AllWithin (λ x. x ≡ 0) xs 0 (length xs)) ((i : ℕ) × (i < length xs) × HoldsAt (λ x. x ≢ 0) xs i)
 zeros c =
     cases_from_all _ _ _ (λ x. x ≡ 0) (λ x. x ≢ 0) c.all.ensures.ran
-    (YieldsList-from_slice (drop (c.args.used / 8 + 1) c.args.payload.now) (c.iter.ensures.rest ∙ after c)) (λ x q k. search (rules, tests)) (λ x q k. search (rules, tests))
+    (YieldsList-from_slice (drop (c.args.used / 8 + 1) c.args.payload.now) (after c)) (λ x q k. search (rules, tests)) (λ x q k. search (rules, tests))
+
+pub returns-then-payload-k : goal.returns-then-payload-k
+returns-then-payload-k c =
+    let bytes = c.args.payload.now in
+    let small : Small 8 bytes = λ i. (c.type_inv.payload i).fits in
+    let k = c.args.used / 8 in
+    let none = rest_none bytes small k (λ i l. omega (arith, rw length-drop at l)) in
+    let within : 8 * k ≤ c.args.used = omega arith in
+    rw (rest_less (number 8 bytes) within none)
 
 pub returns-then-all : goal.returns-then-all
 returns-then-all c =
