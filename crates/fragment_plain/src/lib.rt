@@ -1,13 +1,15 @@
 // Decoding one fragment whose checks have passed: the loop over its codes, and the states before and after it.
 #![tactic(auto)]
 
-ghost use Rattle.std.specs.Prelude.{◌≡◌, cond, ℕ, ◌<◌, ◌≤◌, ◌^◌, length, get_or};
+ghost use Rattle.std.specs.Prelude.{◌≡◌, cond, ℕ, ◌<◌, ◌≤◌, ◌^◌, length, get_or, map};
 ghost use Rattle.lists.specs.Lists.{tabulate};
+ghost use Rattle.digits.specs.Digits.{unpacked};
 ghost use Rattle.sqv4_format.specs.Layout.{anew, bits, fragment_size, frame_samples};
+ghost use Rattle.sqv4_format.specs.Gain.{output_gain};
 ghost use Rattle.sqv4_format.specs.Decode.{start_state, after, decoded_fragment};
 ghost use Rattle.fragment_plain.specs.Run.{sample_at};
 
-use sqv4_format::{Coded, Coding, Reached};
+use sqv4_format::{Coded, Coding, Reached, Variant};
 
 // The state before a fragment's first code. Coding, state and fragment stay three parameters, here and where fragments are decoded: each
 // caller has them apart.
@@ -27,6 +29,26 @@ pub fn state_after(coding: Coding, state: Reached, end: Reached) -> Reached
     if coding.starts_anew() { state } else { end }
 }
 
+// The sixty-four codes of a payload. A match, so that the width is a constant for the compiler: with a variable the shifts take longer.
+fn unpack(variant: Variant, payload: &[u8]) -> [u8; 64]
+    ensures { result ≡ unpacked (bits variant) 64 payload.now }
+{
+    match variant {
+        Variant::H => digits::unpack_codes(payload, 4),
+        Variant::L | Variant::LPlus => digits::unpack_codes(payload, 3),
+    }
+}
+
+// The output gain, for every sample. A loop of its own, which works out eight at a time: `gain::scaled` is made for that, and takes longer
+// than a division where it is called for one sample at a time, between the steps of `decode_codes`.
+fn apply_gain(coding: Coding, volume: u8, samples: &mut [i16])
+    ensures { samples.new ≡ map (output_gain coding.version volume) samples.old }
+{
+    for sample in samples.iter_mut() {
+        *sample = gain::output_gain(coding, *sample, volume);
+    }
+}
+
 // Decodes a code for each place of `out`, and returns the state after the last.
 fn decode_codes(
     coding: Coding,
@@ -42,8 +64,9 @@ fn decode_codes(
     let mut state = start;
     for (i, sample) in out.iter_mut().enumerate() {
         state = adpcm::update(coding, state, codes[i]);
-        *sample = gain::output_gain(coding, state.state.predictor as i16, volume);
+        *sample = state.state.predictor as i16;
     }
+    apply_gain(coding, volume, out);
     state
 }
 
@@ -54,7 +77,7 @@ pub fn decode_fragment(coding: Coding, state: Reached, fragment: &Coded, out: &m
         × (out.new ≡ (decoded_fragment coding.version coding.variant state.state fragment.now.bytes.now (length out.old)).samples) }
 {
     let start = state_before(coding, state, fragment);
-    let codes = digits::unpack_codes(fragment.payload(coding), coding.variant.bits());
+    let codes = unpack(coding.variant, fragment.payload(coding));
     let end = decode_codes(coding, start, &codes, fragment.volume(), out);
     state_after(coding, state, end)
 }

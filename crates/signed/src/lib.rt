@@ -42,12 +42,12 @@ pub fn add_clamp16(x: i32, y: i32) -> i32
     clamp16(x + y)
 }
 
-// The sum, clamped to 0..=top.
-#[tactic(auto, using(crate::proofs::Laws::saturated_to))]
+// The sum, clamped to 0..=top. In 64 bits, which every sum fits: so it compiles without a jump, and `saturating_add_signed` does not.
+#[tactic(auto, using(crate::proofs::Laws::clamp_to_is))]
 pub fn add_clamp_to(x: u32, y: i32, top: u32) -> u32
     ensures { result ≡ clamp_to top (pos x +ℤ y) }
 {
-    x.saturating_add_signed(y).min(top)
+    (x as i64 + y as i64).clamp(0, top as i64) as u32
 }
 
 // A number of 16 bits, raised to 0..=65535. It comes in 32 bits, as the predictor of a state does, which is laid out for C.
