@@ -49,6 +49,11 @@ sized_order variant step e h z =
       third = omega (arith, z.third, z.fourth, g.three);
     }
 
+-- each is at most the one after the next
+pub sized_rise : (variant : Variant) (step : ℕ) {r : Sizes} → bits variant ≡ 3 → 7 ≤ step → Sized variant step r → (r.a ≤ r.c) × (r.b ≤ r.d)
+sized_rise variant step e h z =
+    let g = grow variant step e h in (omega (arith, z.first, z.third, g.one, g.two), omega (arith, z.second, z.fourth, g.two, g.three))
+
 grows : {f : ℕ → ℕ} → Grow f → (i j : ℕ) → i < j → j < 4 → f i < f j
 grows g zero (suc zero) h l = g.one
 grows g zero (suc (suc zero)) h l = omega (arith, g.one, g.two)
